@@ -1,0 +1,3 @@
+-- Laws of the definitions of `pattern`.
+pub mod SizeLaws
+pub mod PatternLaws
