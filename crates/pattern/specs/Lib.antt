@@ -1,3 +1,8 @@
 -- The definitions that the contracts of `pattern` cite.
 pub mod Size
 pub mod Pattern
+pub mod Wedgelet
+pub mod Contour
+pub mod Block
+pub mod Laws
+pub mod Examples
