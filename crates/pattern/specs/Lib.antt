@@ -4,5 +4,6 @@ pub mod Pattern
 pub mod Wedgelet
 pub mod Contour
 pub mod Block
+pub mod Answer
 pub mod Laws
 pub mod Examples

@@ -1,0 +1,38 @@
+-- Laws of blocks, over the capacity m and the size n. Assumes nothing.
+use Prim.Native.Nat.{ℕ, _*_, _≤_, _<_}
+use mathlib.Core.List.{List, []}
+use mathlib.Core.Path.{_≡_, sym, ap, _∙_}
+use lib.ListN.{getD, replicate}
+use Rattle.arith.specs.Lists.{upto}
+use Rattle.arith.specs.Square.{place, transposedList}
+use Rattle.arith.proofs.ListLaws.{upto-at, upto-ext}
+use Rattle.arith.proofs.SquareLaws.{transposed-at}
+use Rattle.pattern.specs.Block.{sample, blockBy, blockOf, transposedBlock}
+
+-- sample (x, y) of the block of f is f x y
+pub sample-at : (m n : ℕ) (f : ℕ → ℕ → ℕ) (x y : ℕ) → n ≤ m → x < n → y < n → sample (blockBy m n f) x y ≡ f x y
+unfolding blockBy
+sample-at m n f x y h hx hy =
+    ap (λ (r : List ℕ). getD r x 0) (upto-at m n (λ j. upto m n (λ i. f i j) 0) (replicate m 0) [] y h hy)
+    ∙ upto-at m n (λ i. f i y) 0 0 x h hx
+
+-- blocks with the same samples are the same
+pub block-ext : (m n : ℕ) (f g : ℕ → ℕ → ℕ) → ((x y : ℕ) → x < n → y < n → f x y ≡ g x y) → blockBy m n f ≡ blockBy m n g
+unfolding blockBy
+block-ext m n f g h = upto-ext m n _ _ (replicate m 0) (λ y hy. upto-ext m n _ _ 0 (λ x hx. h x y hx hy))
+
+-- sample (x, y) of the transposed block is sample (y, x)
+pub transposed-sample : (m n : ℕ) (b : List (List ℕ)) (x y : ℕ) → n ≤ m → x < n → y < n → sample (transposedBlock m n b) x y ≡ sample b y x
+transposed-sample m n b x y h hx hy = sample-at m n (λ i j. sample b j i) x y h hx hy
+
+-- transposed twice it is the block again
+pub block-twice : (m n : ℕ) (f : ℕ → ℕ → ℕ) → n ≤ m → transposedBlock m n (transposedBlock m n (blockBy m n f)) ≡ blockBy m n f
+block-twice m n f h =
+    block-ext m n _ _
+    (λ x y hx hy. transposed-sample m n (blockBy m n f) y x h hy hx ∙ sample-at m n f x y h hx hy)
+
+-- the block of transposed samples is the transposed block
+pub block-transposed : (m n : ℕ) (s : List ℕ) → n ≤ m → blockOf m n (transposedList n s) ≡ transposedBlock m n (blockOf m n s)
+block-transposed m n s h =
+    block-ext m n _ _
+    (λ x y hx hy. transposed-at n s x y hx hy ∙ sym (sample-at m n (λ i j. getD s (place n i j) 0) y x h hy hx))
