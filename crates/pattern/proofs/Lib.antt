@@ -7,3 +7,4 @@ pub mod Growth
 pub mod WedgeletLaws
 pub mod ContourLaws
 pub mod BlockLaws
+pub mod AnswerLaws

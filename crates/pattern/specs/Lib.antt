@@ -5,5 +5,6 @@ pub mod Wedgelet
 pub mod Contour
 pub mod Block
 pub mod Answer
+pub mod Told
 pub mod Laws
 pub mod Examples

@@ -1,0 +1,39 @@
+-- `samples_refusal` meets its contract, check by check. Assumes nothing.
+use mathlib.Core.Bool.{true, false}
+use mathlib.Core.Path.{_≡_, sym, _∙_}
+use native.Mathlib.Omega.{arith}
+use borrow.Author.Needs.{needs}
+use borrow.Author.Tests.{not-true, not-false, eq-eqb, ne-eqb}
+use Rattle.pattern.specs.Size.{sizeOk}
+use Rattle.pattern.specs.Answer.{samplesRefusal}
+use Rattle.pattern.proofs.SizeLaws.{size-bounds, square-64}
+use Rattle.pattern.proofs.contours.samples_refusal.Statement.{statement}
+use Rattle.pattern.proofs.contours.samples_refusal.Tie as tie
+
+size-ok-requires : tie.Need-size-ok-requires
+size-ok-requires c κs = search needs
+
+returns : tie.Need-returns
+unfolding samplesRefusal
+returns c =
+    let h : sizeOk (c .before .before .args .n) ≡ false = sym (c .before .size-ok .ensures) ∙ not-true _ (c .if1 .taken) in
+    rw h
+
+good : (c : tie.Else1) → sizeOk (c .before .before .args .n) ≡ true
+good c = sym (c .before .size-ok .ensures) ∙ not-false _ (c .if1 .left)
+
+mul-if2 : tie.Need-mul-if2
+mul-if2 c =
+    let n = c .before .before .args .n in
+    omega (arith, square-64 {n = n} (size-bounds n (good c) .1))
+
+returns-2 : tie.Need-returns-2
+unfolding samplesRefusal
+returns-2 c = rw (good (c .before), ne-eqb _ _ (c .if2 .taken))
+
+returns-3 : tie.Need-returns-3
+unfolding samplesRefusal
+returns-3 c = rw (good (c .before), eq-eqb _ _ (c .if2 .left))
+
+pub samples-refusal-spec : {M : Type 1} → statement M
+samples-refusal-spec = tie.close (tie.spec size-ok-requires returns mul-if2 returns-2 returns-3)
