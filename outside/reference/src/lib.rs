@@ -1,0 +1,16 @@
+//! An independent implementation of document 01, in its order and words, by the plainest method.
+//! A function that returns a `Result` is a public call: its error is document 01's refusal number,
+//! and a refused call leaves every lent buffer as it was.
+
+pub mod block;
+pub mod edges;
+pub mod outline;
+pub mod random;
+pub mod table;
+
+/// Refusal 1: n is neither 4 nor 8.
+pub const SIZE: u32 = 1;
+/// Refusal 2: a slice of a wrong length.
+pub const LENGTH: u32 = 2;
+/// Refusal 3: the table is not 1 to 256 rising values.
+pub const TABLE: u32 = 3;
