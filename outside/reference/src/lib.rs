@@ -5,7 +5,9 @@
 pub mod block;
 pub mod edges;
 pub mod outline;
+pub mod predict;
 pub mod random;
+pub mod sides;
 pub mod table;
 
 /// Refusal 1: n is neither 4 nor 8.
@@ -14,3 +16,7 @@ pub const SIZE: u32 = 1;
 pub const LENGTH: u32 = 2;
 /// Refusal 3: the table is not 1 to 256 rising values.
 pub const TABLE: u32 = 3;
+/// Refusal 4: an offset outside −255 .. 255, or a reach above 255.
+pub const OFFSET: u32 = 4;
+/// Refusal 5: n = 4 and a word used has a bit from 16 up.
+pub const WORD: u32 = 5;
