@@ -3,6 +3,7 @@
 //! and a refused call leaves every lent buffer as it was.
 
 pub mod block;
+pub mod choice;
 pub mod edges;
 pub mod outline;
 pub mod predict;
@@ -20,3 +21,5 @@ pub const TABLE: u32 = 3;
 pub const OFFSET: u32 = 4;
 /// Refusal 5: n = 4 and a word used has a bit from 16 up.
 pub const WORD: u32 = 5;
+/// Refusal 10: a choice with count 0 and no texture.
+pub const EMPTY_CHOICE: u32 = 10;

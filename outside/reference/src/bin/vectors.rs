@@ -2,6 +2,7 @@
 //! Arguments: the names of the sections wanted; none means all of them.
 
 use reference::block::{all_marked, transposed};
+use reference::choice::{choose, Request};
 use reference::edges::{edge_list, wedgelets};
 use reference::outline::contour;
 use reference::predict::predict;
@@ -13,7 +14,7 @@ use reference::table::index_of;
 type Section = (&'static str, fn());
 
 /// All sections, in the order in which they are printed.
-const SECTIONS: [Section; 8] = [
+const SECTIONS: [Section; 9] = [
     ("wedgelets", wedgelet_lists),
     ("contours", contours),
     ("indices", indices),
@@ -22,6 +23,7 @@ const SECTIONS: [Section; 8] = [
     ("pattern_refusals", pattern_refusals),
     ("sides", sides),
     ("predictions", predictions),
+    ("choices", choices),
 ];
 
 /// Prints the sections named, in the order of `SECTIONS`.
@@ -252,5 +254,178 @@ fn prediction_refusals() {
         predict_line(n, 0x10, &border, &[5], (256, 0), n * n);
         predict_line(n, 0x10, &border, &[5], (0, -256), n * n);
         predict_line(n, word, &border, &[5], (0, 0), n * n);
+    }
+}
+
+/// Sample i of a fill. The same numbers serve originals, textures and borders; x = i % n, y = i / n.
+/// 3 and 4 take a pseudo-random byte; 15, an empty slice, has no samples.
+fn fill_sample(fill: u32, n: usize, i: usize, random: &mut Random) -> u8 {
+    let (x, y) = (i % n, i / n);
+    let of = |chosen: bool, yes: u8, no: u8| if chosen { yes } else { no };
+    match fill {
+        0 => 128,
+        1 => 0,
+        2 => 255,
+        3 => random.byte(),
+        4 => random.byte() % 4 + 126,
+        5 => of(x < n / 2, 100, 180),
+        6 => of(y < n / 2, 100, 180),
+        7 => of(x + y < n, 40, 200),
+        8 => of((x + y) % 2 == 0, 100, 156),
+        9 => of(i == 0, 200, 100),
+        10 => 133,
+        11 => 123,
+        12 => 3 * i as u8,
+        13 => of(i < 2 * n, 100, 180),
+        14 => of(y % 2 == 0, 100, 180),
+        _ => unreachable!("fills are 0 to 15"),
+    }
+}
+
+/// The fill number of an empty slice.
+const NONE: u32 = 15;
+
+/// `length` samples of a fill, or none; the pseudo-random state starts as the seed.
+fn filled(fill: u32, n: usize, length: usize, seed: u64) -> Vec<u8> {
+    let mut random = Random(seed);
+    let length = if fill == NONE { 0 } else { length };
+    (0..length).map(|i| fill_sample(fill, n, i, &mut random)).collect()
+}
+
+/// The tables of the choices, by number.
+fn numbered_table(table: u32) -> Vec<u8> {
+    match table {
+        0 => vec![128],
+        1 => vec![77],
+        2 => vec![100, 128, 140],
+        3 => full_table(),
+        4 => vec![0, 50, 100, 128, 156, 200],
+        5 => vec![],
+        6 => vec![5, 5],
+        7 => (0..257).map(|i| (i % 256) as u8).collect(),
+        _ => unreachable!("tables are 0 to 7"),
+    }
+}
+
+/// The lists of the choices and their counts, by number.
+fn numbered_list(list: u32, n: usize) -> (Vec<u64>, usize) {
+    let built = edge_list(n);
+    let count = built.len();
+    match list {
+        0 => (built, count),
+        1 => (built, 0),
+        2 => (built, 1),
+        3 => (vec![0, all_marked(n)], 2),
+        4 => (vec![0xFFF0, 0x10000], 2),
+        5 => (vec![0xFFF0, 0x10000], 1),
+        6 => (vec![0xFFF0, 0xEEEE], 3),
+        7 => (vec![1, all_marked(n) - 1, 0x8008], 3),
+        _ => unreachable!("lists are 0 to 7"),
+    }
+}
+
+/// The cases of the choices: fill of the original, fill of the border, table, reach, fill of the
+/// texture, list, fault (0 none, 1 the border a byte short, 2 the original a byte short, 3 the texture a
+/// byte short, 4 n is N + 1).
+const CHOICES: [[u32; 7]; 60] = [
+    // Flat blocks: ties between edges, offsets of both signs, ends of the reach and of the table.
+    [0, 0, 3, 0, 15, 0, 0],
+    [0, 0, 3, 5, 15, 0, 0],
+    [10, 0, 3, 5, 15, 0, 0],
+    [11, 0, 3, 5, 15, 0, 0],
+    [10, 0, 3, 1, 15, 0, 0],
+    [11, 0, 3, 1, 15, 0, 0],
+    [1, 0, 3, 255, 15, 0, 0],
+    [2, 0, 3, 255, 15, 0, 0],
+    [0, 1, 3, 255, 15, 0, 0],
+    [0, 2, 3, 255, 15, 0, 0],
+    [0, 0, 3, 5, 0, 0, 0],
+    // Sharp edges, without and with the texture that shows them.
+    [5, 14, 3, 255, 15, 0, 0],
+    [6, 14, 3, 255, 15, 0, 0],
+    [7, 13, 3, 255, 15, 0, 0],
+    [5, 13, 3, 5, 15, 0, 0],
+    [5, 14, 3, 255, 5, 0, 0],
+    [7, 0, 2, 5, 7, 0, 0],
+    // Checks and a marked first sample: the outline is the better pattern.
+    [8, 0, 3, 255, 8, 0, 0],
+    [8, 0, 3, 255, 15, 0, 0],
+    [8, 13, 2, 1, 8, 0, 0],
+    [9, 13, 3, 255, 9, 0, 0],
+    [9, 3, 3, 255, 9, 1, 0],
+    [12, 12, 3, 5, 12, 0, 0],
+    // No edges in the list: the outline alone, or refusal 10.
+    [3, 3, 3, 5, 3, 1, 0],
+    [3, 3, 2, 255, 0, 1, 0],
+    [3, 3, 3, 5, 15, 1, 0],
+    // Pseudo-random blocks: tables of one, three and 256 values, reaches 0, 1, 5 and 255.
+    [3, 3, 0, 5, 15, 0, 0],
+    [3, 3, 1, 255, 3, 0, 0],
+    [3, 3, 2, 0, 15, 0, 0],
+    [3, 3, 2, 1, 15, 0, 0],
+    [3, 3, 2, 5, 3, 0, 0],
+    [3, 3, 2, 255, 3, 0, 0],
+    [3, 3, 3, 0, 15, 0, 0],
+    [3, 3, 3, 1, 15, 0, 0],
+    [3, 3, 3, 5, 3, 0, 0],
+    [3, 3, 3, 255, 15, 0, 0],
+    [3, 3, 3, 255, 3, 0, 0],
+    [4, 4, 3, 1, 15, 0, 0],
+    [4, 4, 3, 5, 4, 0, 0],
+    [4, 4, 2, 5, 4, 0, 0],
+    [3, 3, 3, 5, 15, 2, 0],
+    // Lists of the caller: patterns that leave a side without samples, or mark the first sample.
+    [0, 3, 3, 5, 15, 3, 0],
+    [3, 3, 3, 255, 3, 3, 0],
+    [2, 3, 2, 255, 15, 3, 0],
+    [8, 1, 4, 5, 15, 3, 0],
+    [8, 2, 4, 5, 15, 3, 0],
+    [3, 3, 3, 255, 15, 7, 0],
+    [3, 3, 3, 5, 3, 5, 0],
+    // Refusals, and pairs of faults that show their order.
+    [3, 3, 3, 5, 3, 4, 0],
+    [3, 3, 3, 256, 15, 0, 0],
+    [3, 3, 3, 256, 15, 4, 0],
+    [3, 3, 3, 256, 15, 1, 0],
+    [3, 3, 5, 5, 15, 4, 0],
+    [3, 3, 6, 5, 15, 0, 0],
+    [3, 3, 7, 256, 15, 0, 0],
+    [3, 3, 5, 5, 15, 6, 0],
+    [3, 3, 5, 5, 3, 0, 1],
+    [3, 3, 3, 5, 3, 0, 2],
+    [3, 3, 3, 5, 3, 0, 3],
+    [3, 3, 3, 256, 3, 6, 4],
+];
+
+/// The chosen record of each case for N = 4 and 8, or the refusal. The seeds are 10000 for the
+/// original, 20000 for the border and 30000 for the texture, each plus 10 * CASE + N.
+fn choices() {
+    for n in [4, 8] {
+        for (case, row) in CHOICES.iter().enumerate() {
+            let &[original, border, table, reach, texture, list, fault] = row;
+            let seed = (10 * case + n) as u64;
+            let short = |of: u32| (fault == of) as usize;
+            let (list, count) = numbered_list(list, n);
+            let answer = choose(&Request {
+                n: n + short(4),
+                list: &list,
+                count,
+                border: &filled(border, n, 4 * n - short(1), 20000 + seed),
+                original: &filled(original, n, n * n - short(2), 10000 + seed),
+                table: &numbered_table(table),
+                reach,
+                texture: &filled(texture, n, n * n - short(3), 30000 + seed),
+            });
+            match answer {
+                Ok(choice) => {
+                    let record = choice.record;
+                    println!(
+                        "choice {n} {case} {} {} {} {} {}",
+                        record.kind, record.entry, record.off0, record.off1, choice.cost
+                    );
+                }
+                Err(number) => println!("choice {n} {case} refused {number}"),
+            }
+        }
     }
 }

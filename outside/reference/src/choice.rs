@@ -1,0 +1,151 @@
+//! Choice: the record of least cost.
+
+use crate::block::{mark, size_allowed};
+use crate::outline::outline;
+use crate::predict::{depths_by_mark, predicted, side_value};
+use crate::sides::word_allowed;
+use crate::table::sound;
+use crate::{EMPTY_CHOICE, LENGTH, OFFSET, SIZE, TABLE, WORD};
+
+/// Kind 0 is an edge of the list, kind 1 the outline, whose entry is 0.
+#[derive(Clone, Copy, Debug, Default, PartialEq, Eq)]
+pub struct Record {
+    pub kind: u32,
+    pub entry: u32,
+    pub off0: i32,
+    pub off1: i32,
+}
+
+/// The chosen record and its cost.
+#[derive(Clone, Copy, Debug, PartialEq, Eq)]
+pub struct Choice {
+    pub record: Record,
+    pub cost: u32,
+}
+
+/// "A list and its count, a border, the original, a table, a reach R (0 to 255) and optionally texture
+/// (an empty slice means none)."
+#[derive(Clone, Copy)]
+pub struct Request<'a> {
+    pub n: usize,
+    pub list: &'a [u64],
+    pub count: usize,
+    pub border: &'a [u8],
+    pub original: &'a [u8],
+    pub table: &'a [u8],
+    pub reach: u32,
+    pub texture: &'a [u8],
+}
+
+/// A list count above the words lent or above 9,999 is a wrong length.
+pub fn count_allowed(list: &[u64], count: usize) -> bool {
+    count <= list.len() && count <= 9999
+}
+
+/// The checks of a choice. Refusals: 1, 2, 3, 5, 4, 10.
+fn check(request: &Request) -> Result<(), u32> {
+    let n = request.n;
+    if !size_allowed(n) {
+        return Err(SIZE);
+    }
+    let texture_fits = request.texture.is_empty() || request.texture.len() == n * n;
+    let blocks_fit = request.border.len() == 4 * n && request.original.len() == n * n;
+    if !count_allowed(request.list, request.count) || !blocks_fit || !texture_fits {
+        return Err(LENGTH);
+    }
+    if !sound(request.table) {
+        return Err(TABLE);
+    }
+    if request.list[..request.count].iter().any(|&word| !word_allowed(n, word)) {
+        return Err(WORD);
+    }
+    if request.reach > 255 {
+        return Err(OFFSET);
+    }
+    if request.count == 0 && request.texture.is_empty() {
+        return Err(EMPTY_CHOICE);
+    }
+    Ok(())
+}
+
+/// The kinds, entries and patterns of the records, "edges in list order, then the outline".
+fn patterns(request: &Request) -> Vec<(u32, u32, u64)> {
+    let mut all = Vec::new();
+    for entry in 0..request.count {
+        all.push((0, entry as u32, request.list[entry]));
+    }
+    if !request.texture.is_empty() {
+        all.push((1, 0, outline(request.texture)));
+    }
+    all
+}
+
+/// The offsets in −R .. R, "the smaller absolute value, then the negative": 0, −1, 1, −2, 2 ..
+pub fn offsets(reach: u32) -> Vec<i32> {
+    let mut all = vec![0];
+    for distance in 1..=reach as i32 {
+        all.extend([-distance, distance]);
+    }
+    all
+}
+
+/// "The sum of absolute differences between prediction and original."
+pub fn cost(prediction: &[u8], original: &[u8]) -> u32 {
+    prediction.iter().zip(original).map(|(&p, &o)| p.abs_diff(o) as u32).sum()
+}
+
+/// The choice by trying every record in the order of the tie rule; a later one needs a lesser cost.
+/// Refusals: 1, 2, 3, 5, 4, 10.
+pub fn choose_by_trial(request: &Request) -> Result<Choice, u32> {
+    check(request)?;
+    let Request { n, border, table, .. } = *request;
+    let mut best: Option<Choice> = None;
+    for (kind, entry, word) in patterns(request) {
+        for off0 in offsets(request.reach) {
+            for off1 in offsets(request.reach) {
+                let prediction = predicted(n, word, border, table, off0, off1);
+                let cost = cost(&prediction, request.original);
+                if best.is_none_or(|best| cost < best.cost) {
+                    best = Some(Choice { record: Record { kind, entry, off0, off1 }, cost });
+                }
+            }
+        }
+    }
+    Ok(best.unwrap())
+}
+
+/// The first offset of least cost for the samples of one side, and that cost.
+fn best_offset(request: &Request, word: u64, marked: bool, depth: u8) -> (i32, u32) {
+    let n = request.n;
+    let on_side = |i: &usize| mark(n, word, i % n, i / n) == marked;
+    let samples: Vec<u8> = (0..n * n).filter(on_side).map(|i| request.original[i]).collect();
+    let mut best: Option<(i32, u32)> = None;
+    for offset in offsets(request.reach) {
+        let value = side_value(request.table, depth, offset);
+        let cost = cost(&vec![value; samples.len()], &samples);
+        if best.is_none_or(|best| cost < best.1) {
+            best = Some((offset, cost));
+        }
+    }
+    best.unwrap()
+}
+
+/// The same choice with each side's offset found by itself: the cost is the sum of the two sides'
+/// costs, and an offset alters only its own side's. Refusals: 1, 2, 3, 5, 4, 10.
+pub fn choose(request: &Request) -> Result<Choice, u32> {
+    check(request)?;
+    let mut best: Option<Choice> = None;
+    for (kind, entry, word) in patterns(request) {
+        let (unmarked, marked) = depths_by_mark(request.n, word, request.border);
+        let (off0, cost0) = best_offset(request, word, false, unmarked);
+        let (off1, cost1) = best_offset(request, word, true, marked);
+        let cost = cost0 + cost1;
+        if best.is_none_or(|best| cost < best.cost) {
+            best = Some(Choice { record: Record { kind, entry, off0, off1 }, cost });
+        }
+    }
+    Ok(best.unwrap())
+}
+
+#[cfg(test)]
+mod tests;

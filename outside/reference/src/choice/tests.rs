@@ -1,0 +1,208 @@
+use super::*;
+use crate::block::{transposed, transposed_word};
+use crate::edges::edge_list;
+use crate::random::Random;
+
+/// A sound request for n = 4 with the given list: flat border 128, flat original 128.
+fn flat_request(list: &[u64]) -> Request<'_> {
+    Request {
+        n: 4,
+        list,
+        count: list.len(),
+        border: &[128; 16],
+        original: &[128; 16],
+        table: &[100, 128, 140],
+        reach: 2,
+        texture: &[],
+    }
+}
+
+/// Checks the faster choice against the trial of every record.
+fn both(request: &Request) -> Choice {
+    let answer = choose_by_trial(request).unwrap();
+    assert_eq!(choose(request), Ok(answer));
+    answer
+}
+
+/// A table of `count` rising values spread over 0 to 255.
+fn spread_table(count: usize) -> Vec<u8> {
+    (0..count).map(|i| (i * 255 / (count - 1).max(1)) as u8).collect()
+}
+
+#[test]
+fn offsets_by_absolute_value_then_the_negative() {
+    assert_eq!(offsets(0), [0]);
+    assert_eq!(offsets(2), [0, -1, 1, -2, 2]);
+    assert_eq!(offsets(255).len(), 511);
+}
+
+#[test]
+fn ties_go_to_the_first_entry_and_to_offset_zero() {
+    let list = edge_list(4);
+    let mut request = flat_request(&list);
+    request.texture = &[9; 16];
+    assert_eq!(both(&request), Choice { record: Record::default(), cost: 0 });
+    request.original = &[0; 16];
+    let record = Record { kind: 0, entry: 0, off0: -1, off1: -1 };
+    assert_eq!(both(&request), Choice { record, cost: 1600 });
+    request.original = &[255; 16];
+    let record = Record { kind: 0, entry: 0, off0: 1, off1: 1 };
+    assert_eq!(both(&request), Choice { record, cost: 16 * 115 });
+}
+
+#[test]
+fn the_outline_wins_only_with_a_lesser_cost() {
+    let list = edge_list(4);
+    let mut request = flat_request(&list);
+    let checks: Vec<u8> = (0..16).map(|i| if (i % 4 + i / 4) % 2 == 0 { 100 } else { 140 }).collect();
+    request.original = &checks;
+    request.texture = &checks;
+    let record = Record { kind: 1, entry: 0, off0: -1, off1: 1 };
+    assert_eq!(both(&request), Choice { record, cost: 0 });
+    let with_outline = [outline(&checks)];
+    request.list = &with_outline;
+    request.count = 1;
+    assert_eq!(both(&request).record, Record { kind: 0, ..record });
+    request.count = 0;
+    assert_eq!(both(&request).record, record);
+}
+
+#[test]
+fn of_several_offsets_of_least_cost_the_smallest() {
+    let list = [0];
+    let mut request = flat_request(&list);
+    let checks: Vec<u8> = (0..16).map(|i| if i % 2 == 0 { 100 } else { 156 }).collect();
+    request.original = &checks;
+    request.table = &[0, 50, 100, 128, 156, 200];
+    request.reach = 5;
+    request.border = &[0; 16];
+    assert_eq!(both(&request).record.off0, 2);
+    request.border = &[255; 16];
+    assert_eq!(both(&request).record, Record { kind: 0, entry: 0, off0: -1, off1: 0 });
+}
+
+#[test]
+fn both_methods_agree_on_pseudo_random_blocks() {
+    for seed in 0..40 {
+        let n = if seed % 4 == 3 { 8 } else { 4 };
+        let mut random = Random(seed);
+        let (border, original, texture) = (random.bytes(4 * n), random.bytes(n * n), random.bytes(n * n));
+        let list = edge_list(n);
+        let table = spread_table([1, 2, 3, 7, 256][seed as usize % 5]);
+        both(&Request {
+            n,
+            list: &list,
+            count: if n == 4 { 74 } else { 30 },
+            border: &border,
+            original: &original,
+            table: &table,
+            reach: seed as u32 % 4,
+            texture: if seed % 2 == 0 { &texture } else { &[] },
+        });
+    }
+}
+
+#[test]
+fn refusals_in_order() {
+    let list = [0xFFF0, 0x10000];
+    let long = vec![0u64; 10000];
+    let texture = [0; 15];
+    let mut request = flat_request(&list);
+    request = Request { n: 5, border: &[0; 15], texture: &texture, table: &[], reach: 256, ..request };
+    let refused = |request: &Request| {
+        assert_eq!(choose(request), choose_by_trial(request));
+        choose(request).unwrap_err()
+    };
+    assert_eq!(refused(&request), 1);
+    request.n = 4;
+    assert_eq!(refused(&request), 2);
+    request.border = &[0; 16];
+    assert_eq!(refused(&request), 2);
+    request.texture = &[];
+    assert_eq!(refused(&Request { count: 3, ..request }), 2);
+    assert_eq!(refused(&Request { list: &long, count: 10000, ..request }), 2);
+    assert_eq!(refused(&Request { original: &[0; 17], ..request }), 2);
+    assert_eq!(refused(&request), 3);
+    request.table = &[7];
+    assert_eq!(refused(&request), 5);
+    request.count = 0;
+    assert_eq!(refused(&request), 4);
+    request.reach = 255;
+    assert_eq!(refused(&request), 10);
+    request.count = 1;
+    assert!(choose(&request).is_ok());
+    assert!(choose(&Request { list: &long, count: 9999, reach: 0, ..request }).is_ok());
+}
+
+/// The cost of a record with its pattern.
+fn cost_of(request: &Request, word: u64, off0: i32, off1: i32) -> u32 {
+    let prediction = predicted(request.n, word, request.border, request.table, off0, off1);
+    cost(&prediction, request.original)
+}
+
+/// The diagonal law for one case: partners exist and are single, their predictions are transposed,
+/// their costs equal, and so are the two chosen costs.
+fn diagonal_law(request: &Request) {
+    let n = request.n;
+    let turn = |samples: &[u8]| if samples.is_empty() { vec![] } else { transposed(n, samples).unwrap() };
+    let (left, top) = request.border.split_at(2 * n);
+    let border = [top, left].concat();
+    let (original, texture) = (turn(request.original), turn(request.texture));
+    let turned = Request { border: &border, original: &original, texture: &texture, ..*request };
+    for (kind, _, word) in patterns(request) {
+        let is_partner = |other: &&(u32, u32, u64)| other.0 == kind && other.2 == transposed_word(n, word);
+        let others = patterns(&turned);
+        let partners: Vec<_> = others.iter().filter(is_partner).collect();
+        assert_eq!(partners.len(), 1);
+        for (off0, off1) in [(0, 0), (-1, 1), (1, 0)] {
+            let block = predicted(n, word, request.border, request.table, off0, off1);
+            let other = predicted(n, partners[0].2, &border, request.table, off0, off1);
+            assert_eq!(turn(&block), other);
+            let cost = cost_of(request, word, off0, off1);
+            assert_eq!(cost_of(&turned, partners[0].2, off0, off1), cost);
+        }
+    }
+    assert_eq!(choose(&turned).unwrap().cost, choose(request).unwrap().cost);
+}
+
+#[test]
+fn diagonal_law_on_pseudo_random_blocks() {
+    for seed in 100..130 {
+        let n = if seed % 2 == 0 { 4 } else { 8 };
+        let mut random = Random(seed);
+        let (mut border, original) = (random.bytes(4 * n), random.bytes(n * n));
+        let (texture, list) = (random.bytes(n * n), edge_list(n));
+        let differ = border[0].abs_diff(border[2 * n - 1]) != border[2 * n].abs_diff(border[4 * n - 1]);
+        if seed % 3 == 0 || !differ {
+            border[2 * n - 1] = border[4 * n - 1];
+        }
+        let table = spread_table([1, 3, 16, 256][seed as usize % 4]);
+        diagonal_law(&Request {
+            n,
+            list: &list,
+            count: list.len(),
+            border: &border,
+            original: &original,
+            table: &table,
+            reach: [0, 1, 20, 255][seed as usize / 4 % 4],
+            texture: if seed % 5 < 3 { &texture } else { &[] },
+        });
+    }
+}
+
+#[test]
+fn the_law_needs_its_condition() {
+    let list = edge_list(4);
+    let mut border = [50; 16];
+    (border[7], border[15]) = (40, 60);
+    let turned = {
+        let (left, top) = border.split_at(8);
+        [top, left].concat()
+    };
+    let table: Vec<u8> = (0..=255).collect();
+    let mut original = [50; 16];
+    original[15] = 60;
+    let request = Request { border: &border, original: &original, table: &table, reach: 0, ..flat_request(&list) };
+    assert_eq!(choose(&request).unwrap().cost, 0);
+    assert_eq!(choose(&Request { border: &turned, ..request }).unwrap().cost, 10);
+}
