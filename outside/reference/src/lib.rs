@@ -8,6 +8,7 @@ pub mod edges;
 pub mod outline;
 pub mod predict;
 pub mod random;
+pub mod sheet;
 pub mod sides;
 pub mod table;
 
@@ -21,5 +22,17 @@ pub const TABLE: u32 = 3;
 pub const OFFSET: u32 = 4;
 /// Refusal 5: n = 4 and a word used has a bit from 16 up.
 pub const WORD: u32 = 5;
+/// Refusal 6: kind 0 and entry not below the count.
+pub const ENTRY: u32 = 6;
+/// Refusal 7: kind not 0 or 1, or kind 1 with entry other than 0.
+pub const KIND: u32 = 7;
+/// Refusal 8: width or height not allowed.
+pub const MEASURES: u32 = 8;
 /// Refusal 10: a choice with count 0 and no texture.
 pub const EMPTY_CHOICE: u32 = 10;
+/// Refusal 20: in placing or composing, all blocks are already placed.
+pub const ALL_PLACED: u32 = 20;
+/// Refusal 21: in placing or reading, kind 1 and no texture.
+pub const NO_TEXTURE: u32 = 21;
+/// Refusal 23: a state with more blocks placed than the sheet has.
+pub const PLACED: u32 = 23;

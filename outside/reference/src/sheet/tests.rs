@@ -1,0 +1,175 @@
+use super::*;
+use crate::edges::edge_list;
+use crate::random::Random;
+
+const TABLE_3: [u8; 3] = [100, 128, 140];
+
+/// The table of all values 0 to 255.
+fn full_table() -> Vec<u8> {
+    (0..=255).collect()
+}
+
+/// A state with the number of blocks placed.
+fn state(n: u32, width: u32, height: u32, placed: u32) -> Sheet {
+    Sheet { n, width, height, placed }
+}
+
+/// A record of kind 0.
+fn edge(entry: u32, off0: i32, off1: i32) -> Record {
+    Record { kind: 0, entry, off0, off1 }
+}
+
+#[test]
+fn new_sheets() {
+    assert_eq!(Sheet::new(4, 4, 128), Ok(state(4, 4, 128, 0)));
+    assert_eq!(Sheet::new(8, 128, 8), Ok(state(8, 128, 8, 0)));
+    assert_eq!(Sheet::new(0, 8, 8), Err(1));
+    assert_eq!(Sheet::new(5, 3, 0), Err(1));
+    for (n, width, height) in [(4, 0, 4), (4, 4, 0), (4, 6, 4), (8, 8, 12), (8, 136, 8), (4, 4, 132)] {
+        assert_eq!(Sheet::new(n, width, height), Err(8));
+    }
+}
+
+/// Samples 0, 1, 2 .. of a sheet of 12 by 8 with n = 4.
+fn counted() -> Vec<u8> {
+    (0..96).collect()
+}
+
+#[test]
+fn borders_without_a_row_above() {
+    let samples = counted();
+    assert_eq!(state(4, 12, 8, 0).border(&samples), [128; 16]);
+    let left = [3, 15, 27, 39, 39, 39, 39, 39];
+    assert_eq!(state(4, 12, 8, 1).border(&samples), [left, [3; 8]].concat());
+    let left = [7, 19, 31, 43, 43, 43, 43, 43];
+    assert_eq!(state(4, 12, 8, 2).border(&samples), [left, [7; 8]].concat());
+}
+
+#[test]
+fn borders_below_a_row() {
+    let samples = counted();
+    let top = [36, 37, 38, 39, 40, 41, 42, 43];
+    assert_eq!(state(4, 12, 8, 3).border(&samples), [[36; 8], top].concat());
+    let (left, top) = ([51, 63, 75, 87, 87, 87, 87, 87], [40, 41, 42, 43, 44, 45, 46, 47]);
+    assert_eq!(state(4, 12, 8, 4).border(&samples), [left, top].concat());
+    let (left, top) = ([55, 67, 79, 91, 91, 91, 91, 91], [44, 45, 46, 47, 47, 47, 47, 47]);
+    assert_eq!(state(4, 12, 8, 5).border(&samples), [left, top].concat());
+    let one_column: Vec<u8> = (0..32).collect();
+    let top = [12, 13, 14, 15, 15, 15, 15, 15];
+    assert_eq!(state(4, 4, 8, 1).border(&one_column), [[12; 8], top].concat());
+}
+
+#[test]
+fn placing_writes_only_its_block() {
+    let list = edge_list(4);
+    let lent = Lent { list: &list, count: list.len(), table: &TABLE_3, texture: &[] };
+    let mut samples = vec![7; 96];
+    let next = state(4, 12, 8, 0).place(&mut samples, &lent, &edge(0, -1, 1)).unwrap();
+    assert_eq!(next, state(4, 12, 8, 1));
+    for (i, &sample) in samples.iter().enumerate() {
+        let expected = match (i % 12, i / 12) {
+            (0..=3, 0) => 100,
+            (0..=3, 1..=3) => 140,
+            _ => 7,
+        };
+        assert_eq!(sample, expected);
+    }
+}
+
+#[test]
+fn the_outline_is_that_of_the_blocks_own_texture() {
+    let table = full_table();
+    let texture: Vec<u8> = (0..96).map(|i| if i % 12 >= 6 { 9 } else { 3 }).collect();
+    let lent = Lent { list: &[], count: 0, table: &table, texture: &texture };
+    let outline = Record { kind: 1, entry: 0, off0: 2, off1: 5 };
+    let mut samples = vec![128; 96];
+    let next = state(4, 12, 8, 1).place(&mut samples, &lent, &outline).unwrap();
+    assert_eq!(next.placed, 2);
+    assert_eq!(samples[..12], [128, 128, 128, 128, 130, 130, 133, 133, 128, 128, 128, 128]);
+}
+
+#[test]
+fn refusals_of_placing_in_order_and_the_samples_untouched() {
+    let list = [0xFFF0, 0x10000];
+    let mut samples = vec![7; 96];
+    let bad = Record { kind: 1, entry: 5, off0: 256, off1: 0 };
+    let no_table = Lent { list: &list, count: 2, table: &[], texture: &[] };
+    let lent = Lent { table: &TABLE_3, ..no_table };
+    let mut refused = |sheet: Sheet, length: usize, lent: &Lent, record: &Record| {
+        sheet.place(&mut samples[..length], lent, record).unwrap_err()
+    };
+    assert_eq!(refused(state(5, 13, 8, 99), 95, &no_table, &bad), 1);
+    assert_eq!(refused(state(4, 13, 8, 99), 95, &no_table, &bad), 2);
+    assert_eq!(refused(state(4, 12, 8, 99), 96, &Lent { texture: &[0; 95], ..no_table }, &bad), 2);
+    assert_eq!(refused(state(4, 12, 8, 99), 96, &Lent { count: 3, ..no_table }, &bad), 2);
+    assert_eq!(refused(state(4, 6, 8, 99), 48, &no_table, &bad), 8);
+    assert_eq!(refused(state(4, 0, 0, 0), 0, &no_table, &bad), 8);
+    assert_eq!(refused(state(4, 12, 8, 7), 96, &no_table, &bad), 23);
+    assert_eq!(refused(state(4, 12, 8, 6), 96, &no_table, &bad), 20);
+    assert_eq!(refused(state(4, 12, 8, 5), 96, &no_table, &bad), 3);
+    let fresh = state(4, 12, 8, 5);
+    assert_eq!(refused(fresh, 96, &lent, &bad), 7);
+    assert_eq!(refused(fresh, 96, &lent, &Record { kind: 2, entry: 0, ..bad }), 7);
+    assert_eq!(refused(fresh, 96, &lent, &Record { entry: 0, ..bad }), 21);
+    assert_eq!(refused(fresh, 96, &lent, &edge(2, 256, 0)), 6);
+    assert_eq!(refused(fresh, 96, &Lent { count: 1, ..lent }, &edge(1, 256, 0)), 6);
+    assert_eq!(refused(fresh, 96, &lent, &edge(1, 256, 0)), 5);
+    assert_eq!(refused(fresh, 96, &lent, &edge(0, 256, 0)), 4);
+    assert_eq!(refused(fresh, 96, &lent, &edge(0, 0, -256)), 4);
+    assert_eq!(samples, [7; 96]);
+}
+
+#[test]
+fn composing_is_choosing_and_placing_in_turn() {
+    for (n, seed, textured) in [(4, 1, true), (8, 2, false), (4, 3, false), (8, 4, true)] {
+        let (list, table, mut random) = (edge_list(n), full_table(), Random(seed));
+        let area = 6 * n * n;
+        let (original, texture) = (random.bytes(area), random.bytes(if textured { area } else { 0 }));
+        let lent = Lent { list: &list, count: list.len(), table: &table, texture: &texture };
+        let aim = Aim { original: &original, reach: 20 };
+        let empty = Sheet::new(n as u32, 3 * n as u32, 2 * n as u32).unwrap();
+        let (mut samples, mut records) = (vec![1; area], vec![Record::default(); 7]);
+        let (finished, written) = empty.compose(&mut samples, &lent, &aim, &mut records).unwrap();
+        assert_eq!((finished.placed, written), (6, 6));
+        assert_eq!(records[6], Record::default());
+
+        let (mut sheet, mut again) = (empty, vec![2; area]);
+        for record in &records[..2] {
+            sheet = sheet.place(&mut again, &lent, record).unwrap();
+        }
+        let mut rest = vec![Record::default(); 6];
+        let (rest_state, written) = sheet.compose(&mut again, &lent, &aim, &mut rest).unwrap();
+        assert_eq!((rest_state, written), (finished, 4));
+        assert_eq!(rest[..4], records[2..6]);
+        assert_eq!(rest[4..], [Record::default(); 2]);
+        assert_eq!(again, samples);
+    }
+}
+
+#[test]
+fn refusals_of_composing_in_order_and_nothing_altered() {
+    let (list, original) = ([0xFFF0, 0x10000], [0; 96]);
+    let (mut samples, mut records) = (vec![7; 96], vec![edge(9, 9, 9); 6]);
+    let no_table = Lent { list: &list, count: 2, table: &[], texture: &[] };
+    let lent = Lent { table: &TABLE_3, ..no_table };
+    let aim = Aim { original: &original, reach: 256 };
+    let short = Aim { original: &original[1..], reach: 256 };
+    let mut refused = |sheet: Sheet, lent: &Lent, aim: &Aim, count: usize| {
+        sheet.compose(&mut samples, lent, aim, &mut records[..count]).unwrap_err()
+    };
+    assert_eq!(refused(state(5, 12, 8, 9), &no_table, &short, 5), 1);
+    assert_eq!(refused(state(4, 12, 8, 9), &no_table, &short, 6), 2);
+    assert_eq!(refused(state(4, 12, 8, 5), &no_table, &aim, 5), 2);
+    assert_eq!(refused(state(4, 12, 8, 9), &Lent { texture: &[0; 97], ..no_table }, &aim, 6), 2);
+    assert_eq!(refused(state(4, 16, 6, 9), &no_table, &aim, 3), 2);
+    assert_eq!(refused(state(4, 16, 6, 9), &no_table, &aim, 4), 8);
+    assert_eq!(refused(state(4, 12, 8, 7), &no_table, &aim, 6), 23);
+    assert_eq!(refused(state(4, 12, 8, 6), &no_table, &aim, 6), 20);
+    assert_eq!(refused(state(4, 12, 8, 5), &no_table, &aim, 6), 3);
+    assert_eq!(refused(state(4, 12, 8, 5), &lent, &aim, 6), 5);
+    assert_eq!(refused(state(4, 12, 8, 5), &Lent { count: 0, ..lent }, &aim, 6), 4);
+    let within = Aim { reach: 255, ..aim };
+    assert_eq!(refused(state(4, 12, 8, 5), &Lent { count: 0, ..lent }, &within, 6), 10);
+    assert_eq!(samples, [7; 96]);
+    assert_eq!(records, [edge(9, 9, 9); 6]);
+}
