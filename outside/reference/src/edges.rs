@@ -78,10 +78,8 @@ mod tests {
     #[test]
     fn border_points_go_clockwise() {
         let points = border_points(4);
-        let expected = [
-            (0, 0), (1, 0), (2, 0), (3, 0), (3, 1), (3, 2),
-            (3, 3), (2, 3), (1, 3), (0, 3), (0, 2), (0, 1),
-        ];
+        let expected =
+            [(0, 0), (1, 0), (2, 0), (3, 0), (3, 1), (3, 2), (3, 3), (2, 3), (1, 3), (0, 3), (0, 2), (0, 1)];
         assert_eq!(points, expected);
         assert_eq!(border_points(8).len(), 28);
     }

@@ -5,6 +5,7 @@
 pub mod block;
 pub mod choice;
 pub mod edges;
+pub mod file;
 pub mod outline;
 pub mod predict;
 pub mod random;
@@ -28,11 +29,15 @@ pub const ENTRY: u32 = 6;
 pub const KIND: u32 = 7;
 /// Refusal 8: width or height not allowed.
 pub const MEASURES: u32 = 8;
+/// Refusal 9: file text of another form.
+pub const FORM: u32 = 9;
 /// Refusal 10: a choice with count 0 and no texture.
 pub const EMPTY_CHOICE: u32 = 10;
 /// Refusal 20: in placing or composing, all blocks are already placed.
 pub const ALL_PLACED: u32 = 20;
 /// Refusal 21: in placing or reading, kind 1 and no texture.
 pub const NO_TEXTURE: u32 = 21;
+/// Refusal 22: the sheet is to be written out and blocks are missing.
+pub const MISSING: u32 = 22;
 /// Refusal 23: a state with more blocks placed than the sheet has.
 pub const PLACED: u32 = 23;

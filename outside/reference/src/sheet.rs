@@ -47,19 +47,31 @@ impl Sheet {
 
     /// Refusal 1.
     pub fn check_size(&self) -> Result<(), u32> {
-        if size_allowed(self.n as usize) { Ok(()) } else { Err(SIZE) }
+        if size_allowed(self.n as usize) {
+            Ok(())
+        } else {
+            Err(SIZE)
+        }
     }
 
     /// Refusal 8: width and height are multiples of n, n to 128.
     pub fn check_measures(&self) -> Result<(), u32> {
-        let allowed = |side: u32| side % self.n == 0 && (self.n..=128).contains(&side);
-        if allowed(self.width) && allowed(self.height) { Ok(()) } else { Err(MEASURES) }
+        let allowed = |side: u32| side.is_multiple_of(self.n) && (self.n..=128).contains(&side);
+        if allowed(self.width) && allowed(self.height) {
+            Ok(())
+        } else {
+            Err(MEASURES)
+        }
     }
 
     /// Refusals 8, then 23.
     pub fn check_state(&self) -> Result<(), u32> {
         self.check_measures()?;
-        if self.placed as u64 > self.blocks() { Err(PLACED) } else { Ok(()) }
+        if self.placed as u64 > self.blocks() {
+            Err(PLACED)
+        } else {
+            Ok(())
+        }
     }
 
     /// The number of the sheet's blocks, by whole division where the measures are not allowed.
@@ -96,7 +108,13 @@ impl Sheet {
         let at = |column: usize, row: usize| samples[row * width + column];
         let held = |k: usize| k.min(n - 1);
         let left = |k: usize| at(x - 1, y + held(k));
-        let top = |k: usize| if x + k < width { at(x + k, y - 1) } else { at(x + n - 1, y - 1) };
+        let top = |k: usize| {
+            if x + k < width {
+                at(x + k, y - 1)
+            } else {
+                at(x + n - 1, y - 1)
+            }
+        };
         let side = |k: usize| match (x > 0, y > 0) {
             (false, false) => (128, 128),
             (true, false) => (left(k), left(0)),

@@ -144,7 +144,13 @@ fn cost_of(request: &Request, word: u64, off0: i32, off1: i32) -> u32 {
 /// their costs equal, and so are the two chosen costs.
 fn diagonal_law(request: &Request) {
     let n = request.n;
-    let turn = |samples: &[u8]| if samples.is_empty() { vec![] } else { transposed(n, samples).unwrap() };
+    let turn = |samples: &[u8]| {
+        if samples.is_empty() {
+            vec![]
+        } else {
+            transposed(n, samples).unwrap()
+        }
+    };
     let (left, top) = request.border.split_at(2 * n);
     let border = [top, left].concat();
     let (original, texture) = (turn(request.original), turn(request.texture));
@@ -202,7 +208,8 @@ fn the_law_needs_its_condition() {
     let table: Vec<u8> = (0..=255).collect();
     let mut original = [50; 16];
     original[15] = 60;
-    let request = Request { border: &border, original: &original, table: &table, reach: 0, ..flat_request(&list) };
+    let request =
+        Request { border: &border, original: &original, table: &table, reach: 0, ..flat_request(&list) };
     assert_eq!(choose(&request).unwrap().cost, 0);
     assert_eq!(choose(&Request { border: &turned, ..request }).unwrap().cost, 10);
 }

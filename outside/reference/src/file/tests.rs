@@ -1,0 +1,240 @@
+use super::*;
+use crate::random::Random;
+use crate::sheet::Aim;
+
+const SAMPLE: &str =
+    "size width height values\n4 4 4 3\ndepth\n100\n128\n140\nkind entry off0 off1\n0 0 -1 1\n";
+const SHOWN: &str =
+    "width height\n4 4\ndepth\n100 100 100 100\n140 140 140 140\n140 140 140 140\n140 140 140 140\n";
+
+/// A record that no file holds, to see what reading leaves untouched.
+const UNREAD: Record = Record { kind: 9, entry: 9, off0: 999, off1: 999 };
+
+/// State, table, samples and records.
+type Read = (Sheet, Vec<u8>, Vec<u8>, Vec<Record>);
+
+/// Reads with the built list for n = 4, or the refusal; refused or past the used part, nothing changes.
+fn read_4(text: &str, texture: &[u8]) -> Result<Read, (u32, u32)> {
+    let list = edge_list(4);
+    let mut samples = vec![77; SAMPLES_LENT];
+    let mut records = vec![UNREAD; RECORDS_LENT];
+    let answer = read(text.as_bytes(), &list, list.len(), texture, &mut samples, &mut records);
+    let (area, blocks) = match &answer {
+        Ok((sheet, _)) => (sheet.area() as usize, sheet.blocks() as usize),
+        Err(_) => (0, 0),
+    };
+    assert!(samples[area..].iter().all(|&sample| sample == 77));
+    assert!(records[blocks..].iter().all(|record| *record == UNREAD));
+    samples.truncate(area);
+    records.truncate(blocks);
+    let (sheet, table) = answer.map_err(|refused| (refused.number, refused.line))?;
+    Ok((sheet, table, samples, records))
+}
+
+/// The refusal number and line of the sample file with a part of its text replaced.
+fn refused(old: &str, new: &str) -> (u32, u32) {
+    assert_eq!(SAMPLE.matches(old).count(), 1, "{old}");
+    let text = SAMPLE.replace(old, new);
+    let answer = read_4(&text, &[]).unwrap_err();
+    assert_eq!(show(text.as_bytes()), format!("refusal line\n{} {}\n", answer.0, answer.1));
+    answer
+}
+
+#[test]
+fn the_sample_file() {
+    let (sheet, table, samples, records) = read_4(SAMPLE, &[]).unwrap();
+    assert_eq!(sheet, Sheet { n: 4, width: 4, height: 4, placed: 1 });
+    assert_eq!(table, [100, 128, 140]);
+    assert_eq!(samples, [[100; 4], [140; 4], [140; 4], [140; 4]].concat());
+    assert_eq!(records, [Record { kind: 0, entry: 0, off0: -1, off1: 1 }]);
+    assert_eq!(show(SAMPLE.as_bytes()), SHOWN);
+    let mut bytes = vec![7; 80 + 4 * 3 + 32];
+    let length = write(&sheet, &edge_list(4), 74, &table, &records, &mut bytes).unwrap();
+    assert_eq!(&bytes[..length], SAMPLE.as_bytes());
+    assert!(bytes[length..].iter().all(|&byte| byte == 7));
+}
+
+#[test]
+fn show_needs_space_for_its_text() {
+    let mut lent = vec![7; SHOWN.len() + 1];
+    assert_eq!(show_text(SAMPLE.as_bytes(), &mut lent[..SHOWN.len() - 1]), Err(2));
+    assert!(lent.iter().all(|&byte| byte == 7));
+    assert_eq!(show_text(SAMPLE.as_bytes(), &mut lent), Ok(SHOWN.len()));
+    assert_eq!((&lent[..SHOWN.len()], lent[SHOWN.len()]), (SHOWN.as_bytes(), 7));
+}
+
+#[test]
+fn numerals() {
+    for (field, number) in [("0", 0), ("7", 7), ("10", 10), ("99999", 99999)] {
+        assert_eq!(numeral(field, false), Some(number));
+        assert_eq!(numeral(field, true), Some(number));
+    }
+    assert_eq!(numeral("-1", true), Some(-1));
+    assert_eq!(numeral("-99999", true), Some(-99999));
+    for field in ["", "-", "-0", "00", "01", "-01", "100000", "-100000", "+1", "--1", "1-", "a", " 1", "1\r"]
+    {
+        assert_eq!(numeral(field, true), None, "{field}");
+    }
+    assert_eq!(numeral("-1", false), None);
+}
+
+#[test]
+fn refusals_of_sizes() {
+    for (new, expected) in [
+        ("5 0 0 0\n", (1, 2)),
+        ("0 4 4 3\n", (1, 2)),
+        ("99999 4 4 3\n", (1, 2)),
+        ("4 6 4 0\n", (8, 2)),
+        ("4 4 0 3\n", (8, 2)),
+        ("4 132 4 3\n", (8, 2)),
+        ("4 4 4 0\n", (3, 2)),
+        ("4 4 4 257\n", (3, 2)),
+        ("4 4 4\n", (9, 2)),
+        ("4 4 4 3 \n", (9, 2)),
+        ("4 4 4 3 3\n", (9, 2)),
+        ("4  4 4 3\n", (9, 2)),
+        ("4 4 4 3\r\n", (9, 2)),
+        ("5 4 4 03\n", (9, 2)),
+        ("5 4 4 -3\n", (9, 2)),
+        ("5 4 4 100000\n", (9, 2)),
+        ("\n", (9, 2)),
+    ] {
+        assert_eq!(refused("4 4 4 3\n", new), expected, "{new}");
+    }
+    assert_eq!(refused("size width", "size  width"), (9, 1));
+    assert_eq!(refused("values\n4", "values 4"), (9, 1));
+}
+
+#[test]
+fn refusals_of_values_and_records() {
+    for (old, new, expected) in [
+        ("depth\n", "depths\n", (9, 3)),
+        ("depth\n", "", (9, 3)),
+        ("100\n", "256\n", (3, 4)),
+        ("128\n", "100\n", (3, 5)),
+        ("140\n", "140 \n", (9, 6)),
+        ("140\n", "-1\n", (9, 6)),
+        ("140\n", "", (9, 6)),
+        ("kind ", "Kind ", (9, 7)),
+        ("0 0 -1 1\n", "2 0 -256 1\n", (7, 8)),
+        ("0 0 -1 1\n", "1 1 -256 1\n", (7, 8)),
+        ("0 0 -1 1\n", "1 0 -256 1\n", (21, 8)),
+        ("0 0 -1 1\n", "0 74 -256 1\n", (6, 8)),
+        ("0 0 -1 1\n", "0 73 -256 1\n", (4, 8)),
+        ("0 0 -1 1\n", "0 73 0 99999\n", (4, 8)),
+        ("0 0 -1 1\n", "0 74 -0 1\n", (9, 8)),
+        ("0 0 -1 1\n", "0 74 0 100000\n", (9, 8)),
+        ("0 0 -1 1\n", "0 -1 0 0\n", (9, 8)),
+        ("0 0 -1 1\n", "0 0 -1 1", (9, 8)),
+        ("0 0 -1 1\n", "", (9, 8)),
+        ("0 0 -1 1\n", "0 0 -1 1\n\n", (9, 9)),
+        ("0 0 -1 1\n", "0 0 -1 1\n0", (9, 9)),
+        ("0 0 -1 1\n", "0 0 -1 1\n0 0 -1 1\n", (9, 9)),
+    ] {
+        assert_eq!(refused(old, new), expected, "{old}{new}");
+    }
+    assert_eq!(read_4("", &[]).unwrap_err(), (9, 1));
+    assert_eq!(show(&[255, 10]), "refusal line\n9 1\n");
+}
+
+#[test]
+fn the_first_bad_line_counts() {
+    let text = SAMPLE.replace("128\n", "1 28\n").replace("4 4 4 3", "4 5 4 3");
+    assert_eq!(read_4(&text, &[]).unwrap_err(), (8, 2));
+    let text = SAMPLE.replace("128\n", "90\n").replace("140\n", "x\n");
+    assert_eq!(read_4(&text, &[]).unwrap_err(), (3, 5));
+}
+
+#[test]
+fn lengths_and_texture_in_reading() {
+    let list = vec![0x10000u64; 10000];
+    let (mut samples, mut records) = (vec![7; SAMPLES_LENT], vec![UNREAD; RECORDS_LENT]);
+    let bad = "not a file".as_bytes();
+    let short = Err(Refused { number: 2, line: 0 });
+    assert_eq!(read(bad, &list, 10000, &[], &mut samples, &mut records), short);
+    assert_eq!(read(bad, &list[..1], 2, &[], &mut samples, &mut records), short);
+    assert_eq!(read(bad, &list, 1, &[], &mut samples[1..], &mut records), short);
+    assert_eq!(read(bad, &list, 1, &[], &mut samples, &mut records[1..]), short);
+    let word = Err(Refused { number: 5, line: 8 });
+    assert_eq!(read(SAMPLE.as_bytes(), &list, 1, &[], &mut samples, &mut records), word);
+    assert_eq!(read_4(SAMPLE, &[0; 15]).unwrap_err(), (2, 2));
+    assert_eq!(read_4(&SAMPLE.replace("4 4 4 3", "4 4 4 0"), &[0; 15]).unwrap_err(), (2, 2));
+    assert_eq!(read_4(&SAMPLE.replace("4 4 4 3", "4 4 6 3"), &[0; 15]).unwrap_err(), (8, 2));
+    assert!(read_4(&SAMPLE.replace("0 0 -1 1", "1 0 -1 1"), &[0; 16]).is_ok());
+}
+
+#[test]
+fn refusals_of_writing_in_order_and_the_bytes_untouched() {
+    let list = [0xFFF0, 0x10000];
+    let mut bytes = vec![7; 80 + 4 + 64];
+    let edge = |entry: u32, off0: i32| Record { kind: 0, entry, off0, off1: 0 };
+    let (bad, sound) = (Record { kind: 2, entry: 0, off0: 256, off1: 0 }, edge(0, 0));
+    let state = |n, width, placed| Sheet { n, width, height: 4, placed };
+    let mut refused = |sheet: Sheet, count: usize, table: &[u8], records: &[Record], space: usize| {
+        write(&sheet, &list, count, table, records, &mut bytes[..space]).unwrap_err()
+    };
+    assert_eq!(refused(state(5, 9, 9), 3, &[], &[], 0), 1);
+    assert_eq!(refused(state(4, 9, 9), 3, &[], &[bad; 2], 148), 2);
+    assert_eq!(refused(state(4, 9, 9), 2, &[], &[bad], 148), 2);
+    assert_eq!(refused(state(4, 9, 9), 2, &[], &[bad; 2], 143), 2);
+    assert_eq!(refused(state(4, 8, 2), 2, &[7, 7], &[bad; 2], 148), 2);
+    assert_eq!(refused(state(4, 9, 9), 2, &[], &[bad; 2], 144), 8);
+    assert_eq!(refused(state(4, 8, 3), 2, &[], &[bad; 2], 148), 23);
+    assert_eq!(refused(state(4, 8, 1), 2, &[], &[bad; 2], 148), 22);
+    assert_eq!(refused(state(4, 8, 2), 2, &[], &[bad; 2], 148), 3);
+    let full = state(4, 8, 2);
+    assert_eq!(refused(full, 2, &[7], &[sound, bad], 148), 7);
+    assert_eq!(refused(full, 2, &[7], &[edge(2, 256), bad], 148), 6);
+    assert_eq!(refused(full, 2, &[7], &[edge(1, 256), bad], 148), 5);
+    assert_eq!(refused(full, 2, &[7], &[edge(0, 256), bad], 148), 4);
+    assert!(bytes.iter().all(|&byte| byte == 7));
+    let outline = Record { kind: 1, ..sound };
+    assert!(write(&full, &list, 2, &[7], &[outline, sound, bad], &mut bytes).is_ok());
+}
+
+#[test]
+fn written_files_read_back() {
+    for (n, wide, high, seed, textured) in [(4, 3, 2, 1, true), (8, 2, 3, 2, true), (4, 32, 32, 3, false)] {
+        let (list, mut random) = (edge_list(n), Random(seed));
+        let area = n * n * wide * high;
+        let table: Vec<u8> = (0..=255).step_by(5).collect();
+        let (original, texture) = (random.bytes(area), random.bytes(if textured { area } else { 0 }));
+        let lent = Lent { list: &list, count: list.len(), table: &table, texture: &texture };
+        let (mut samples, mut records) = (vec![0; area], vec![UNREAD; wide * high]);
+        let empty = Sheet::new(n as u32, (n * wide) as u32, (n * high) as u32).unwrap();
+        let aim = Aim { original: &original, reach: 9 };
+        let (sheet, _) = empty.compose(&mut samples, &lent, &aim, &mut records).unwrap();
+        let mut bytes = vec![0; 80 + 4 * table.len() + 32 * records.len()];
+        let length = write(&sheet, &list, list.len(), &table, &records, &mut bytes).unwrap();
+
+        let (mut read_samples, mut read_records) = (vec![1; SAMPLES_LENT], vec![UNREAD; RECORDS_LENT]);
+        let file = &bytes[..length];
+        let answer = read(file, &list, list.len(), &texture, &mut read_samples, &mut read_records);
+        assert_eq!(answer, Ok((sheet, table)));
+        assert_eq!(read_samples[..area], samples);
+        assert_eq!(read_records[..records.len()], records);
+    }
+}
+
+#[test]
+fn an_altered_file_is_refused_or_is_the_file_written_of_what_was_read() {
+    let list = edge_list(4);
+    for at in 0..SAMPLE.len() {
+        for byte in [b'\n', b' ', b'-', b'0', b'1', b'5', b'9', b'k', 0, 255] {
+            let (mut replaced, mut longer, mut shorter) =
+                (SAMPLE.as_bytes().to_vec(), SAMPLE.as_bytes().to_vec(), SAMPLE.as_bytes().to_vec());
+            replaced[at] = byte;
+            longer.insert(at, byte);
+            shorter.remove(at);
+            for file in [replaced, longer, shorter] {
+                let (mut samples, mut records) = (vec![7; SAMPLES_LENT], vec![UNREAD; RECORDS_LENT]);
+                let answer = read(&file, &list, list.len(), &[], &mut samples, &mut records);
+                if let Ok((sheet, table)) = answer {
+                    let mut bytes = vec![0; 1000];
+                    let length = write(&sheet, &list, list.len(), &table, &records, &mut bytes).unwrap();
+                    assert_eq!(bytes[..length], file);
+                }
+            }
+        }
+    }
+}
