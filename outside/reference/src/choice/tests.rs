@@ -103,6 +103,22 @@ fn both_methods_agree_on_pseudo_random_blocks() {
 }
 
 #[test]
+fn both_methods_agree_on_the_greatest_reach() {
+    let mut random = Random(77);
+    let (border, original) = (random.bytes(16), random.bytes(16));
+    for (word, table) in [(0x8CEF, spread_table(256)), (0xFFF0, spread_table(40)), (0, spread_table(9))] {
+        let list = [word];
+        both(&Request {
+            border: &border,
+            original: &original,
+            table: &table,
+            reach: 255,
+            ..flat_request(&list)
+        });
+    }
+}
+
+#[test]
 fn refusals_in_order() {
     let list = [0xFFF0, 0x10000];
     let long = vec![0u64; 10000];
