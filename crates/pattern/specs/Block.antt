@@ -1,8 +1,8 @@
 -- A block is n rows of n samples, kept in m rows of m places (m is the capacity) and filled up to n; the other places are 0. Assumes nothing.
-use Prim.Native.Nat.{ℕ, _+_, _*_}
+use Prim.Native.Nat.{ℕ, _*_, _/_, _%_}
 use mathlib.Core.List.{List, []}
 use lib.ListN.{getD, replicate}
-use Rattle.arith.specs.Lists.{upto}
+use Rattle.arith.specs.Lists.{listOf, upto}
 use Rattle.arith.specs.Square.{place}
 
 -- the rows and columns that a block has room for
@@ -24,3 +24,7 @@ blockOf m n s = blockBy m n (λ x y. getD s (place n x y) 0)
 -- the block transposed: sample (x, y) moves to (y, x)
 abbrev pub transposedBlock : ℕ → ℕ → List (List ℕ) → List (List ℕ)
 transposedBlock m n b = blockBy m n (λ x y. sample b y x)
+
+-- the samples of a block, row by row
+unfoldable pub samplesOf : ℕ → List (List ℕ) → List ℕ
+samplesOf n b = listOf (λ k. sample b (k % n) (k / n)) (n * n)

@@ -1,8 +1,14 @@
 // Blocks and patterns of n by n samples, the wedgelet list and the contour.
+mod block;
 mod contours;
 mod size;
 mod wedgelet;
 
+pub use block::Block;
+pub use block::CAPACITY;
+pub use block::block_of;
+pub use block::transposed;
+pub use block::write_block;
 pub use contours::Contoured;
 pub use contours::contour;
 pub use contours::samples_refusal;
