@@ -1,0 +1,3 @@
+-- Laws of the depth table.
+pub mod TableLaws
+pub mod IndexLaws

@@ -1,0 +1,34 @@
+-- `is_table` meets its contract: each test of `tableOk` in turn; that each value is 0 to 255 follows from its type.
+use native.Mathlib.Omega.{arith}
+use denote.Ref.{now}
+use borrow.Author.Needs.{needs}
+use borrow.Author.Tests.{lt-leb, le-leb}
+use Rattle.depth_table.specs.Table.{tableOk}
+use Rattle.depth_table.proofs.TableLaws.{bytes-made}
+use Rattle.depth_table.proofs.is_table.Statement.{statement}
+use Rattle.depth_table.proofs.is_table.Tie as tie
+
+returns : tie.Need-returns
+unfolding tableOk
+returns c = simp (lt-leb 1 _ (c .if1 .taken))
+
+returns-2 : tie.Need-returns-2
+unfolding tableOk
+returns-2 c = simp (le-leb 1 _ (c .before .if1 .left), lt-leb _ 256 (c .if2 .taken))
+
+is-rising-requires : tie.Need-is-rising-requires
+is-rising-requires c κs = search needs
+
+returns-3 : tie.Need-returns-3
+unfolding tableOk
+returns-3 c =
+    let slice = c .before .before .before in
+    simp (
+      le-leb 1 _ (c .before .before .if1 .left),
+      le-leb _ 256 (c .before .if2 .left),
+      bytes-made (now (slice .before .args .table)) (λ i. omega (arith, slice .shared-slice-known .given i)),
+    )
+    (c .is-rising .ensures)
+
+pub is-table-spec : {M : Type 1} → statement M
+is-table-spec = tie.close (tie.spec returns returns-2 is-rising-requires returns-3)

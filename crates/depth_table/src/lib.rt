@@ -1,0 +1,88 @@
+// The depth table (document 01, "Depth table"): depth values, depth indices, and the index of the nearest value.
+ghost use mathlib.Core.Path.{_≡_};
+ghost use Rattle.arith.specs.Distance.{dist};
+ghost use Rattle.depth_table.specs.Table.{rising, tableOk, indexOf};
+ghost use Rattle.depth_table.specs.Answer.{indexAnswer, indexTold};
+
+// A depth value, 0 to 255.
+pub struct DepthValue(pub u8);
+
+// An index into a depth table. It never stands for a depth value.
+pub struct DepthIndex(pub usize);
+
+// What `index_of` answers: an index, or the number of its refusal.
+pub enum Indexed {
+    At(DepthIndex),
+    Refused(u8),
+}
+
+// |a - b|
+pub fn distance(a: u8, b: u8) -> u8
+    ensures { λ r. ⌜ r ≡ dist a b ⌝ }
+{
+    if a < b { b - a } else { a - b }
+}
+
+fn wide(x: u8) -> usize
+    ensures { λ r. ⌜ r ≡ x ⌝ }
+{
+    x as usize
+}
+
+// Whether the values rise strictly: each is at least one more than the one before it.
+fn is_rising(table: &[u8]) -> bool
+    ensures { λ r. ⌜ r ≡ rising 0 (now (table .entry)) ⌝ }
+{
+    let mut low: usize = 0;
+    let mut i: usize = 0;
+    while i < table.len() {
+        let value = wide(table[i]);
+        if value < low {
+            return false;
+        }
+        low = value + 1;
+        i += 1;
+    }
+    true
+}
+
+// Whether the slice is a sound depth table: 1 to 256 values, strictly rising.
+pub fn is_table(table: &[u8]) -> bool
+    ensures { λ r. ⌜ r ≡ tableOk (now (table .entry)) ⌝ }
+{
+    let count = table.len();
+    if count < 1 {
+        return false;
+    }
+    if count > 256 {
+        return false;
+    }
+    is_rising(table)
+}
+
+// The index of the value nearest to d; of two equally near, the later, which is the greater. 0 in an empty table.
+pub fn nearest_index(table: &[u8], d: DepthValue) -> DepthIndex
+    ensures { λ r. ⌜ r .0 ≡ indexOf (now (table .entry)) (d .0) ⌝ }
+{
+    let want = d.0;
+    let mut best: usize = 0;
+    let mut k: usize = 0;
+    while k + 1 < table.len() {
+        k += 1;
+        if distance(want, table[k]) <= distance(want, table[best]) {
+            best = k;
+        }
+    }
+    DepthIndex(best)
+}
+
+// The index of a depth, or refusal 3 where the table is not sound.
+pub fn index_of(table: &[u8], d: DepthValue) -> Indexed
+    ensures { λ r. ⌜ indexTold r ≡ indexAnswer (now (table .entry)) (d .0) ⌝ }
+{
+    if is_table(table) {
+        Indexed::At(nearest_index(table, d))
+    } else {
+        Indexed::Refused(3)
+    }
+}
