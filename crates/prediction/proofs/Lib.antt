@@ -2,4 +2,5 @@
 pub mod OffsetLaws
 pub mod SideLaws
 pub mod BlockLaws
+pub mod TransposedLaws
 pub mod CallLaws
