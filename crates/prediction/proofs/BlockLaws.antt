@@ -1,0 +1,48 @@
+-- Laws of the predicted block: its length, its range, and the form in which the code writes it. Assumes nothing.
+use Prim.Native.Nat.{ℕ, _*_, _<_}
+use mathlib.Core.Path.{_≡_, refl, sym, ap, _∙_}
+use mathlib.Core.Bool.{Bool, true, false, cond}
+use mathlib.Core.List.{List}
+use lib.IntN.{ℤ}
+use lib.ListN.{length, getD}
+use Rattle.arith.specs.Bits.{testBit}
+use Rattle.arith.specs.Distance.{clamped}
+use Rattle.arith.specs.Lists.{listOf}
+use Rattle.arith.proofs.ListLaws.{length-listOf, listOf-at, listOf-ext}
+use Rattle.depth_table.specs.Table.{tableOk, indexOf}
+use Rattle.depth_table.proofs.TableLaws.{table-bytes}
+use Rattle.prediction.specs.Sides.{differ, lt, br, sideDepth}
+use Rattle.prediction.specs.Block.{levelOf, sampleOf, predicted}
+use Rattle.prediction.proofs.SideLaws.{side-depth-bits}
+
+-- every value of a sound table is below 256
+pub level-byte : (t : List ℕ) (d : ℕ) (off : ℤ) → tableOk t ≡ true → levelOf t d off < 256
+unfolding levelOf
+level-byte t d off ok = table-bytes t ok (clamped (length t) (indexOf t d) off)
+
+-- the level v of the samples with the mark m, by the steps that the code takes
+pub level-found :
+    (n w : ℕ) (s t : List ℕ) (m : Bool) {v d a b : ℕ} {z off : ℤ}
+    → v ≡ levelOf t d z → d ≡ cond (differ m (testBit w 0)) b a → a ≡ lt n w s → b ≡ br n w s → z ≡ off
+    → v ≡ levelOf t (sideDepth n w s m) off
+level-found n w s t m e p q r o = cc (side-depth-bits n w s m)
+
+module _ (n w : ℕ) (s t : List ℕ) (off0 off1 : ℤ) where
+  pub length-predicted : length (predicted n w s t off0 off1) ≡ n * n
+  unfolding predicted
+  length-predicted = length-listOf _ (n * n)
+
+  pub predicted-at : (k : ℕ) → k < n * n → getD (predicted n w s t off0 off1) k 0 ≡ sampleOf n w s t off0 off1 (testBit w k)
+  unfolding predicted
+  predicted-at k h = listOf-at _ 0 (n * n) k h
+
+  -- v0 and v1 are the values of unmarked and marked samples
+  module _ {v0 v1 : ℕ} (e0 : v0 ≡ levelOf t (sideDepth n w s false) off0) (e1 : v1 ≡ levelOf t (sideDepth n w s true) off1) where
+    sample-is : (m : Bool) → cond m v1 v0 ≡ sampleOf n w s t off0 off1 m
+    unfolding sampleOf
+    sample-is true = e1
+    sample-is false = e0
+
+    pub painted-is : {samples : ℕ} → samples ≡ n * n → listOf (λ k. cond (testBit w k) v1 v0) samples ≡ predicted n w s t off0 off1
+    unfolding predicted
+    painted-is e = rw e (listOf-ext _ _ (n * n) (λ k _. sample-is (testBit w k)))

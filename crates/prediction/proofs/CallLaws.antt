@@ -1,0 +1,70 @@
+-- What holds where no check of a call fails. Assumes nothing.
+use Prim.Native.Nat.{ℕ, _*_, _^_, _≤_, _<_}
+use mathlib.Core.Path.{_≡_}
+use mathlib.Core.Bool.{Bool, true}
+use mathlib.Core.List.{List}
+use lib.Dec.{eqb}
+use lib.IntN.{ℤ}
+use lib.ListN.{length}
+use borrow.Author.Tests.{eqb-true, ltb-true}
+use Rattle.arith.proofs.Bools.{both-of}
+use Rattle.arith.proofs.CheckLaws.{passed}
+use Rattle.depth_table.specs.Table.{tableOk}
+use Rattle.pattern.specs.Size.{sizeOk, wordOk}
+use Rattle.pattern.proofs.SizeLaws.{size-bounds}
+use Rattle.prediction.specs.Offset.{offsetOk}
+use Rattle.prediction.specs.Answer.{sidesRefusal, lengthsOk, predictRefusal}
+
+-- `side_depths` refuses nothing
+pub record SidesAccepted (n w : ℕ) (s : List ℕ) : Type 0 where
+  pub size : sizeOk n ≡ true
+  pub low : 4 ≤ n
+  pub high : n ≤ 8
+  pub long : length s ≡ 4 * n
+  pub inside : w < 2 ^ (n * n)
+
+pub sides-accepted : (n w : ℕ) (s : List ℕ) → sidesRefusal n w s ≡ 0 → SidesAccepted n w s
+unfolding sidesRefusal
+sides-accepted n w s h =
+    let p₁ = passed (sizeOk n) 0 _ h in
+    let p₂ = passed (eqb (length s) (4 * n)) 1 _ (p₁ .1) in
+    let p₃ = passed (wordOk n w) 4 0 (p₂ .1) in
+    let b = size-bounds n (p₁ .0) in
+    record { size = p₁ .0; low = b .0; high = b .1; long = eqb-true _ _ (p₂ .0); inside = ltb-true w (2 ^ (n * n)) (p₃ .0) }
+
+-- `predict` refuses nothing
+pub record PredictAccepted (n w neighbours : ℕ) (t : List ℕ) (off0 off1 : ℤ) (samples : ℕ) : Type 0 where
+  pub size : sizeOk n ≡ true
+  pub low : 4 ≤ n
+  pub high : n ≤ 8
+  pub long : neighbours ≡ 4 * n
+  pub full : samples ≡ n * n
+  pub sound : tableOk t ≡ true
+  pub inside : w < 2 ^ (n * n)
+  pub first : offsetOk off0 ≡ true
+  pub second : offsetOk off1 ≡ true
+
+pub predict-accepted :
+    (n w neighbours : ℕ) (t : List ℕ) (off0 off1 : ℤ) (samples : ℕ) → predictRefusal n w neighbours t off0 off1 samples ≡ 0
+    → PredictAccepted n w neighbours t off0 off1 samples
+unfolding predictRefusal lengthsOk
+predict-accepted n w neighbours t off0 off1 samples h =
+    let p₁ = passed (sizeOk n) 0 _ h in
+    let p₂ = passed (lengthsOk n neighbours samples) 1 _ (p₁ .1) in
+    let p₃ = passed (tableOk t) 2 _ (p₂ .1) in
+    let p₄ = passed (wordOk n w) 4 _ (p₃ .1) in
+    let p₅ = passed (offsetOk off0) 3 _ (p₄ .1) in
+    let p₆ = passed (offsetOk off1) 3 0 (p₅ .1) in
+    let b = size-bounds n (p₁ .0) in
+    let l = both-of (eqb neighbours (4 * n)) (eqb samples (n * n)) (p₂ .0) in
+    record {
+      size = p₁ .0;
+      low = b .0;
+      high = b .1;
+      long = eqb-true _ _ (l .0);
+      full = eqb-true _ _ (l .1);
+      sound = p₃ .0;
+      inside = ltb-true w (2 ^ (n * n)) (p₄ .0);
+      first = p₅ .0;
+      second = p₆ .0;
+    }

@@ -1,0 +1,72 @@
+-- `paint` meets its contract. The invariant: the samples below k have their values.
+use Prim.Native.Nat.{ℕ, _<_, _≤_, _-_}
+use mathlib.Core.Path.{_≡_, refl}
+use mathlib.Core.Bool.{cond}
+use native.Mathlib.Omega.{arith}
+use borrow.Author.Needs.{needs}
+use borrow.Author.Count.{below-none}
+use lib.ListN.{length, getD, length-set}
+use Rattle.arith.specs.Bits.{testBit}
+use Rattle.arith.proofs.ListLaws.{stored, stored-all}
+use Rattle.prediction.proofs.block.paint.Statement.{statement}
+use Rattle.prediction.proofs.block.paint.Tie as tie
+
+abbrev Inv-loop : tie.InvT-loop
+Inv-loop word v1 v0 block₀ k₀ block k =
+    (k ≤ length block) × (length block ≡ length block₀) × ((j : ℕ) → j < k → getD block j 0 ≡ cond (testBit word j) v1 v0)
+
+abbrev μ-loop : tie.MeasureT-loop
+μ-loop word v1 v0 block₀ k₀ block k = length block - k
+
+loop-holds : tie.Need-loop-holds Inv-loop μ-loop
+loop-holds c = (omega arith, refl, below-none _)
+
+mark-at-requires : tie.Need-mark-at-requires Inv-loop μ-loop
+mark-at-requires c κs = search needs
+
+pick-requires : tie.Need-pick-requires Inv-loop μ-loop
+pick-requires c κs = search needs
+
+slice-write-block : tie.Need-slice-write-block Inv-loop μ-loop
+slice-write-block c = search needs
+
+add-k : tie.Need-add-k Inv-loop μ-loop
+add-k c = search needs
+
+loop-less : tie.Need-loop-less Inv-loop μ-loop
+loop-less c = simp length-set (omega arith)
+
+loop-again : tie.Need-loop-again Inv-loop μ-loop
+loop-again c =
+    let l = c .before .before .before .loop in
+    let a = c .before .before .before .before .before .args in
+    let e : c .pick .result ≡ cond (testBit (a .word) (l .k)) (a .v1) (a .v0) = cc in (
+      simp length-set (omega arith),
+      simp length-set (l .inv .1),
+      stored (λ j. cond (testBit (a .word) j) (a .v1) (a .v0)) 0 (l .block) (l .k) _ (c .before .before .loop-test .taken) e (l .inv .2),
+    )
+
+same-length : tie.Need-same-length Inv-loop μ-loop
+same-length c = c .before .loop .inv .1
+
+returns : tie.Need-returns Inv-loop μ-loop
+returns c =
+    let l = c .before .loop in
+    let z : l .k ≡ length (l .block) = omega arith in
+    stored-all _ 0 (l .block) _ (l .inv .1) (λ j h. l .inv .2 j (omega arith))
+
+pub paint-spec : {M : Type 1} → statement M
+paint-spec =
+    tie.close
+    (tie.spec
+    Inv-loop
+    μ-loop
+    loop-holds
+    mark-at-requires
+    pick-requires
+    slice-write-block
+    add-k
+    loop-less
+    loop-again
+    same-length
+    returns)

@@ -1,0 +1,93 @@
+// The predicted block.
+ghost use mathlib.Core.Path.{_≡_};
+ghost use mathlib.Core.Bool.{cond};
+ghost use Prim.Native.Nat.{_≤_};
+ghost use lib.ListN.{length};
+ghost use Rattle.arith.specs.Bits.{testBit};
+ghost use Rattle.arith.specs.Checks.{unless};
+ghost use Rattle.arith.specs.Lists.{listOf};
+ghost use Rattle.prediction.specs.Answer.{lengthsOk, predictRefusal, predictAnswer, predictBlock, predictTold};
+use crate::Predicted;
+use crate::offset;
+use crate::sides;
+
+fn pick(m: bool, a: u8, b: u8) -> u8
+    ensures { λ r. ⌜ r ≡ cond m a b ⌝ }
+{
+    if m { a } else { b }
+}
+
+// Each sample takes v1 where it is marked, v0 where not.
+fn paint(word: u64, v1: u8, v0: u8, block: &mut [u8])
+    ensures { λ _. ⌜ now (block .exit) ≡ listOf (λ k. cond (testBit word k) v1 v0) (length (now (block .entry))) ⌝ }
+{
+    let mut k: usize = 0;
+    while k < block.len() {
+        let v = pick(pattern::mark_at(word, k), v1, v0);
+        block[k] = v;
+        k += 1;
+    }
+}
+
+// Whether there are 4n neighbours, and n * n samples in the block.
+fn lengths_ok(n: usize, neighbours: usize, samples: usize) -> bool
+    requires { ⌜ n ≤ 8 ⌝ }
+    ensures { λ r. ⌜ r ≡ lengthsOk n neighbours samples ⌝ }
+{
+    if neighbours != 4 * n {
+        return false;
+    }
+    samples == n * n
+}
+
+// The number where the check fails, else what the checks after it say.
+fn check(ok: bool, number: u8, rest: u8) -> u8
+    ensures { λ r. ⌜ r ≡ unless ok number rest ⌝ }
+{
+    if ok { rest } else { number }
+}
+
+fn predict_refusal(
+    n: usize,
+    word: u64,
+    neighbours: usize,
+    table: &[u8],
+    off0: i32,
+    off1: i32,
+    samples: usize,
+) -> u8
+    ensures { λ r. ⌜ r ≡ predictRefusal n word neighbours (now (table .entry)) off0 off1 samples ⌝ }
+{
+    if !pattern::size_ok(n) {
+        return 1;
+    }
+    let offset1 = check(offset::offset_ok(off1), 4, 0);
+    let offsets = check(offset::offset_ok(off0), 4, offset1);
+    let words = check(pattern::word_ok(n, word), 5, offsets);
+    let tables = check(depth_table::is_table(table), 3, words);
+    check(lengths_ok(n, neighbours, samples), 2, tables)
+}
+
+// Writes the predicted block of n * n samples and answers the number of marks, or refuses with 1, 2, 3, 5 or 4 and writes nothing.
+pub fn predict(
+    n: usize,
+    word: u64,
+    border: &[u8],
+    table: &[u8],
+    off0: i32,
+    off1: i32,
+    block: &mut [u8],
+) -> Predicted
+    ensures answered { λ r. ⌜ predictTold r ≡ predictAnswer n word (now (border .entry)) (now (table .entry)) off0 off1 (length (now (block .entry))) ⌝ }
+    ensures written { λ r. ⌜ now (block .exit) ≡ predictBlock n word (now (border .entry)) (now (table .entry)) off0 off1 (now (block .entry)) ⌝ }
+{
+    let refusal = predict_refusal(n, word, border.len(), table, off0, off1, block.len());
+    if refusal != 0 {
+        return Predicted::Refused(refusal);
+    }
+    let d = sides::depths_of(n, word, border);
+    let v0 = offset::level(table, sides::depth_at(word, d, false), off0);
+    let v1 = offset::level(table, sides::depth_at(word, d, true), off1);
+    paint(word, v1, v0, block);
+    Predicted::Marks(u64::count_ones(word))
+}
