@@ -1,0 +1,58 @@
+-- `depth_bench_predict` meets its contract: the struct says what `predict` answered. Assumes nothing.
+use mathlib.Core.Path.{sym, ap, _∙_}
+use mir.Syntax.{w32}
+use mir.ValLaws.{toZ-ofZ}
+use Rattle.prediction.specs.Answer.{predictTold}
+use Rattle.depth_bench.specs.Structs.{predictionOf}
+use borrow.Author.Needs.{needs}
+use Rattle.depth_bench.proofs.depth_bench_predict.Statement.{statement}
+use Rattle.depth_bench.proofs.depth_bench_predict.Tie as tie
+
+predict-requires : tie.Need-predict-requires
+predict-requires c κs = search needs
+
+enum-known-answer : tie.Need-enum-known-answer
+enum-known-answer c = search needs
+
+enum-known-answer-2 : tie.Need-enum-known-answer-2
+enum-known-answer-2 c = search needs
+
+wide-requires : tie.Need-wide-requires
+wide-requires c κs = search needs
+
+same-length : tie.Need-same-length
+same-length c = search needs
+
+returns : tie.Need-returns
+returns c =
+    let p = c .before .before .before .before .before in
+    let s = p .before .before .before .before .before in
+    let e = toZ-ofZ w32 _ (s .fits .off0) in
+    let f = toZ-ofZ w32 _ (s .fits .off1) in
+    let told = ap predictTold (c .before .answer .given .1) in
+    (cc (e, f, ap predictionOf (sym told ∙ p .predict .ensures .0)), cc (e, f))
+
+same-length-2 : tie.Need-same-length-2
+same-length-2 c = search needs
+
+returns-2 : tie.Need-returns-2
+returns-2 c =
+    let p = c .before .before .before .before .before .before in
+    let s = p .before .before .before .before .before in
+    let e = toZ-ofZ w32 _ (s .fits .off0) in
+    let f = toZ-ofZ w32 _ (s .fits .off1) in
+    let told = ap predictTold (c .before .before .answer2 .given .1) in
+    (cc (e, f, ap predictionOf (sym told ∙ p .predict .ensures .0)), cc (e, f))
+
+pub depth-bench-predict-spec : {M : Type 1} → statement M
+depth-bench-predict-spec =
+    tie.close
+    (tie.spec
+    predict-requires
+    enum-known-answer
+    enum-known-answer-2
+    wide-requires
+    same-length
+    returns
+    same-length-2
+    returns-2)

@@ -1,0 +1,2 @@
+-- What C's calls return.
+pub mod Structs
