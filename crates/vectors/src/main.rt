@@ -1,0 +1,21 @@
+// Prints the vectors that outside/README.md describes, section by section, from the answers of the public calls.
+mod blocks;
+mod contours;
+mod indices;
+mod lists;
+mod output;
+mod parts;
+mod pattern_refusals;
+mod random;
+mod samples;
+mod table_refusals;
+mod tables;
+
+fn main() {
+    lists::print();
+    contours::print();
+    indices::print();
+    blocks::print();
+    table_refusals::print();
+    pattern_refusals::print();
+}

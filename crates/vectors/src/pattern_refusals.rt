@@ -1,0 +1,93 @@
+// Section `pattern_refusals`: the refusals of the list builder and of the contour.
+use crate::output;
+use crate::parts;
+use pattern::Contoured;
+use pattern::Listed;
+
+// The refusal of a lent list; 0 for none.
+fn list_refusal(n: usize, list: &mut [u64]) -> u8 {
+    let listed = pattern::wedgelets(n, list);
+    match listed {
+        Listed::Count(_) => 0,
+        Listed::Refused(r) => r,
+    }
+}
+
+fn list_line(n: usize, length: usize) {
+    let mut list = [0u64; 756];
+    let refusal = list_refusal(n, parts::first_words(&mut list, length));
+    output::text(b"refusal wedgelets");
+    output::number(n);
+    output::number(length);
+    output::small(refusal);
+    output::end();
+}
+
+// The refusals of the sizes 0 to 17.
+fn sizes() {
+    for n in 0..18 {
+        list_line(n, 756);
+    }
+}
+
+// The refusal of a texture; 0 for none.
+fn contour_refusal(n: usize, texture: &[u8]) -> u8 {
+    let contoured = pattern::contour(n, texture);
+    match contoured {
+        Contoured::Word(_) => 0,
+        Contoured::Refused(r) => r,
+    }
+}
+
+// The refusal of samples that a block is read from and written to; 0 for none.
+fn block_refusal(n: usize, samples: &mut [u8]) -> u8 {
+    pattern::write_block(n, pattern::block_of(n, samples), samples)
+}
+
+// The number that three calls agree on; 255 where they differ.
+fn agreed(a: u8, b: u8, c: u8) -> u8 {
+    if a == b && b == c { a } else { 255 }
+}
+
+// The refusal of a texture, which a block of as many samples has too.
+fn samples_line(n: usize, length: usize) {
+    let mut samples = [0u8; 256];
+    let contour = contour_refusal(n, parts::first(&samples, length));
+    let block = block_refusal(n, parts::first_mut(&mut samples, length));
+    output::text(b"refusal contour");
+    output::number(n);
+    output::number(length);
+    output::small(agreed(contour, block, pattern::samples_refusal(n, length)));
+    output::end();
+}
+
+fn samples_lines(n: usize) {
+    samples_line(n, 0);
+    samples_line(n, 15);
+    samples_line(n, 16);
+    samples_line(n, 17);
+    samples_line(n, 63);
+    samples_line(n, 64);
+    samples_line(n, 65);
+    samples_line(n, 256);
+}
+
+fn lists() {
+    sizes();
+    list_line(4, 0);
+    list_line(4, 131);
+    list_line(4, 132);
+    list_line(8, 132);
+    list_line(8, 755);
+    list_line(8, 756);
+}
+
+pub(crate) fn print() {
+    lists();
+    samples_lines(0);
+    samples_lines(3);
+    samples_lines(4);
+    samples_lines(5);
+    samples_lines(8);
+    samples_lines(16);
+}

@@ -1,0 +1,64 @@
+// The samples of textures, blocks and borders.
+ghost use Prim.Native.Nat.{_≤_};
+use crate::random::Random;
+
+// Where samples come from: pseudo-random bytes, or a case of section `contours`.
+pub(crate) enum Source {
+    Bytes,
+    Texture(usize),
+}
+
+// One of two samples.
+fn either(first: bool, a: u8, b: u8) -> u8 {
+    if first { a } else { b }
+}
+
+// Whether the place is at one end of 0 .. last.
+fn is_end(k: usize, last: usize) -> bool {
+    k == 0 || k == last
+}
+
+// Sample i of a texture of section `contours`; `byte` is its pseudo-random byte.
+fn texture_sample(case: usize, n: usize, i: usize, byte: u8) -> u8
+    requires { ⌜ 1 ≤ n ⌝ }
+{
+    let x = i % n;
+    let y = i / n;
+    let last = n - 1;
+    match case {
+        0 => 0,
+        1 => 255,
+        2 => 100,
+        3 => either(i == 0, 255, 0),
+        4 => either(x == last && y == last, 255, 0),
+        5 => either(y == 0, 200, 50),
+        6 => either(x == 0, 200, 50),
+        7 => (i % 256) as u8,
+        8 => 255 - (i % 256) as u8,
+        9 => either(is_end(x, last) && is_end(y, last), 100, 90),
+        10..=17 => byte,
+        _ => byte % 4,
+    }
+}
+
+fn sample(source: Source, n: usize, i: usize, byte: u8) -> u8
+    requires { ⌜ 1 ≤ n ⌝ }
+{
+    match source {
+        Source::Bytes => byte,
+        Source::Texture(case) => texture_sample(case, n, i, byte),
+    }
+}
+
+// The first 64 samples: a block or a border takes as many as it needs from the start. A step of the state comes before each.
+pub(crate) fn samples(source: Source, n: usize, seed: u64) -> [u8; 64]
+    requires { ⌜ 1 ≤ n ⌝ }
+{
+    let mut out = [0u8; 64];
+    let mut state = Random(seed);
+    for i in 0..64 {
+        state = state.next();
+        out[i] = sample(source, n, i, state.byte());
+    }
+    out
+}
