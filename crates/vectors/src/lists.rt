@@ -2,6 +2,15 @@
 use crate::output;
 use pattern::Listed;
 
+// Builds the list, and answers its count; 0 where it is refused.
+pub(crate) fn build(n: usize, list: &mut [u64]) -> usize {
+    let listed = pattern::wedgelets(n, list);
+    match listed {
+        Listed::Count(count) => count,
+        Listed::Refused(_) => 0,
+    }
+}
+
 // A line for each of the first `count` words.
 fn words(list: &[u64], count: usize) {
     for k in 0..count {
@@ -12,20 +21,17 @@ fn words(list: &[u64], count: usize) {
     }
 }
 
-fn list(n: usize) {
-    let mut words_of_list = [0u64; 756];
-    let listed = pattern::wedgelets(n, &mut words_of_list);
-    let Listed::Count(count) = listed else {
-        return;
-    };
+fn lines(n: usize) {
+    let mut list = [0u64; 756];
+    let count = build(n, &mut list);
     output::text(b"wedgelets");
     output::number(n);
     output::number(count);
     output::end();
-    words(&words_of_list, count);
+    words(&list, count);
 }
 
 pub(crate) fn print() {
-    list(4);
-    list(8);
+    lines(4);
+    lines(8);
 }

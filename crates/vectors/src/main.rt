@@ -6,10 +6,13 @@ mod lists;
 mod output;
 mod parts;
 mod pattern_refusals;
+mod predictions;
 mod random;
 mod samples;
+mod sides;
 mod table_refusals;
 mod tables;
+mod words;
 
 fn main() {
     lists::print();
@@ -18,4 +21,6 @@ fn main() {
     blocks::print();
     table_refusals::print();
     pattern_refusals::print();
+    sides::print();
+    predictions::print();
 }

@@ -12,6 +12,24 @@ pub(crate) fn number(n: usize) {
     io::print_decimal(STDOUT_FILENO, n as u64);
 }
 
+// |z|
+fn magnitude(z: i32) -> u64 {
+    if z < 0 {
+        return (-1 - z) as u64 + 1;
+    }
+    z as u64
+}
+
+// A space and an offset, with a minus where it is negative.
+pub(crate) fn offset(z: i32) {
+    if z < 0 {
+        text(b" -");
+    } else {
+        text(b" ");
+    }
+    io::print_decimal(STDOUT_FILENO, magnitude(z));
+}
+
 // A space and a small decimal number: a sample, or a refusal number.
 pub(crate) fn small(n: u8) {
     number(n as usize);

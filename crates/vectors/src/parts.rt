@@ -1,7 +1,10 @@
 // Parts of slices: as many elements from the start as a case asks for.
+ghost use Prim.Native.Nat.{_≤_};
 
 // The samples of a block, N * N, for N = 4 and 8.
-pub(crate) fn area(n: usize) -> usize {
+pub(crate) fn area(n: usize) -> usize
+    ensures { λ r. ⌜ 1 ≤ r ⌝ }
+{
     if n == 4 { 16 } else { 64 }
 }
 

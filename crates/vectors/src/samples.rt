@@ -2,10 +2,11 @@
 ghost use Prim.Native.Nat.{_≤_};
 use crate::random::Random;
 
-// Where samples come from: pseudo-random bytes, or a case of section `contours`.
+// Where samples come from: pseudo-random bytes, a texture of section `contours`, or the rising border of section `sides`.
 pub(crate) enum Source {
     Bytes,
     Texture(usize),
+    Rising(u8),
 }
 
 // One of two samples.
@@ -41,18 +42,33 @@ fn texture_sample(case: usize, n: usize, i: usize, byte: u8) -> u8
     }
 }
 
+// Sample i of the border L(k) = 10 + 10 * k, T(k) = 100 + 10 * k; `end` is added to L(2N - 1).
+fn rising_sample(n: usize, i: usize, end: u8) -> u8
+    requires { ⌜ (n ≤ 8) × (i ≤ 63) ⌝ }
+{
+    let left = 2 * n;
+    if left <= i {
+        return ((100 + 10 * (i - left)) % 256) as u8;
+    }
+    if i + 1 == left {
+        return ((10 + 10 * i + end as usize) % 256) as u8;
+    }
+    ((10 + 10 * i) % 256) as u8
+}
+
 fn sample(source: Source, n: usize, i: usize, byte: u8) -> u8
-    requires { ⌜ 1 ≤ n ⌝ }
+    requires { ⌜ (1 ≤ n) × (n ≤ 8) × (i ≤ 63) ⌝ }
 {
     match source {
         Source::Bytes => byte,
         Source::Texture(case) => texture_sample(case, n, i, byte),
+        Source::Rising(end) => rising_sample(n, i, end),
     }
 }
 
 // The first 64 samples: a block or a border takes as many as it needs from the start. A step of the state comes before each.
 pub(crate) fn samples(source: Source, n: usize, seed: u64) -> [u8; 64]
-    requires { ⌜ 1 ≤ n ⌝ }
+    requires { ⌜ (1 ≤ n) × (n ≤ 8) ⌝ }
 {
     let mut out = [0u8; 64];
     let mut state = Random(seed);
