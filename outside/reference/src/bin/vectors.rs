@@ -1,10 +1,10 @@
 //! Prints the vectors, section by section; `outside/README.md` has the rule of every input.
 //! Arguments: the names of the sections wanted; none means all of them.
 
-use reference::block::{all_marked, transposed};
-use reference::choice::{choose, Request};
+use reference::block::{all_marked, transposed, transposed_word};
+use reference::choice::{choose, Choice, Request};
 use reference::edges::{edge_list, wedgelets};
-use reference::outline::contour;
+use reference::outline::{contour, outline};
 use reference::predict::predict;
 use reference::random::Random;
 use reference::sides::side_depths;
@@ -14,7 +14,7 @@ use reference::table::index_of;
 type Section = (&'static str, fn());
 
 /// All sections, in the order in which they are printed.
-const SECTIONS: [Section; 9] = [
+const SECTIONS: [Section; 10] = [
     ("wedgelets", wedgelet_lists),
     ("contours", contours),
     ("indices", indices),
@@ -24,6 +24,7 @@ const SECTIONS: [Section; 9] = [
     ("sides", sides),
     ("predictions", predictions),
     ("choices", choices),
+    ("diagonal", diagonal),
 ];
 
 /// Prints the sections named, in the order of `SECTIONS`.
@@ -428,4 +429,74 @@ fn choices() {
             }
         }
     }
+}
+
+/// Samples transposed; none stay none.
+fn turned(n: usize, samples: &[u8]) -> Vec<u8> {
+    if samples.is_empty() {
+        return Vec::new();
+    }
+    transposed(n, samples).unwrap()
+}
+
+/// Document 01's condition: the runs differ from end to end by unequal amounts, or end on equal samples.
+fn ends_decide(n: usize, border: &[u8]) -> bool {
+    let (left, top) = border.split_at(2 * n);
+    let end = 2 * n - 1;
+    left[0].abs_diff(left[end]) != top[0].abs_diff(top[end]) || left[end] == top[end]
+}
+
+/// The pattern of a chosen record.
+fn pattern_of(request: &Request, choice: &Choice) -> u64 {
+    match choice.record.kind {
+        0 => request.list[choice.record.entry as usize],
+        _ => outline(request.texture),
+    }
+}
+
+/// The cases of `choices` with the list as built and no fault, and a reach that is allowed: the choice, the
+/// choice for the transposed block, and whether the two records are partners.
+fn diagonal() {
+    for n in [4, 8] {
+        for (case, row) in CHOICES.iter().enumerate() {
+            let &[original, border, table, reach, texture, list, fault] = row;
+            let table = numbered_table(table);
+            if list != 0 || fault != 0 || reach > 255 || number_of(index_of(&table, 0)) != 0 {
+                continue;
+            }
+            let seed = (10 * case + n) as u64;
+            let list = edge_list(n);
+            let border = filled(border, n, 4 * n, 20000 + seed);
+            let original = filled(original, n, n * n, 10000 + seed);
+            let texture = filled(texture, n, n * n, 30000 + seed);
+            let request = Request {
+                n,
+                list: &list,
+                count: list.len(),
+                border: &border,
+                original: &original,
+                table: &table,
+                reach,
+                texture: &texture,
+            };
+            diagonal_line(case, &request);
+        }
+    }
+}
+
+/// `diagonal N CASE HOLDS COST COST' PARTNERS`: HOLDS is 1 where document 01's condition holds, PARTNERS where the
+/// two chosen records are partners.
+fn diagonal_line(case: usize, request: &Request) {
+    let n = request.n;
+    let (left, top) = request.border.split_at(2 * n);
+    let border = [top, left].concat();
+    let (original, texture) = (turned(n, request.original), turned(n, request.texture));
+    let other = Request { border: &border, original: &original, texture: &texture, ..*request };
+    let (here, across) = (choose(request).unwrap(), choose(&other).unwrap());
+    let partners = here.record.kind == across.record.kind
+        && here.record.off0 == across.record.off0
+        && here.record.off1 == across.record.off1
+        && pattern_of(&other, &across) == transposed_word(n, pattern_of(request, &here));
+    let holds = ends_decide(n, request.border);
+    println!("diagonal {n} {case} {} {} {} {}", holds as u32, here.cost, across.cost, partners as u32);
 }
