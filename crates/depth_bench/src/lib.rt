@@ -2,7 +2,9 @@
 ghost use mathlib.Core.Path.{_≡_};
 ghost use lib.ListN.{length};
 ghost use Rattle.prediction.specs.Answer.{predictAnswer, predictBlock};
-ghost use Rattle.depth_bench.specs.Structs.{predictionOf};
+ghost use Rattle.choice.specs.Answer.{chooseAnswer, chooseTold};
+ghost use Rattle.depth_bench.specs.Structs.{predictionOf, choiceOf, refusedChoice, builtCase};
+use pattern::Listed;
 use prediction::Predicted;
 
 // The number of marks, or the number of the refusal beside 0.
@@ -10,6 +12,17 @@ use prediction::Predicted;
 pub struct Prediction {
     pub refusal: u32,
     pub marks: u32,
+}
+
+// The chosen record and its cost, or the number of the refusal beside 0.
+#[repr(C)]
+pub struct Choice {
+    pub refusal: u32,
+    pub kind: u32,
+    pub entry: u32,
+    pub off0: i32,
+    pub off1: i32,
+    pub cost: u32,
 }
 
 fn wide(number: u8) -> u32
@@ -38,5 +51,65 @@ pub extern "C" fn depth_bench_predict(
             refusal: wide(number),
             marks: 0,
         },
+    }
+}
+
+// A refusal: its number, and 0 in the other fields.
+fn refused(number: u8) -> Choice
+    ensures { λ r. ⌜ r ≡ refusedChoice number ⌝ }
+{
+    Choice {
+        refusal: number as u32,
+        kind: 0,
+        entry: 0,
+        off0: 0,
+        off1: 0,
+        cost: 0,
+    }
+}
+
+// What `choice::choose` answered, as C gets it.
+fn told(answer: choice::Choice) -> Choice
+    ensures { λ r. ⌜ r ≡ choiceOf (chooseTold answer) ⌝ }
+{
+    match answer {
+        choice::Choice::Chosen(best) => Choice {
+            refusal: 0,
+            kind: best.kind,
+            entry: best.entry,
+            off0: best.off0,
+            off1: best.off1,
+            cost: best.cost,
+        },
+        choice::Choice::Refused(number) => refused(number),
+    }
+}
+
+// The record of least cost, with the wedgelet list for n, as `choice::choose` finds it.
+#[no_mangle]
+pub extern "C" fn depth_bench_choose(
+    n: usize,
+    border: &[u8],
+    original: &[u8],
+    table: &[u8],
+    reach: u32,
+    texture: &[u8],
+) -> Choice
+    ensures { λ r. ⌜ r ≡ choiceOf (chooseAnswer (builtCase n (now (border .entry)) (now (original .entry)) (now (table .entry)) reach (now (texture .entry)))) ⌝ }
+{
+    let mut list = [0u64; 756];
+    let built = pattern::wedgelets(n, &mut list);
+    match built {
+        Listed::Count(count) => told(choice::choose(
+            n,
+            &list,
+            count,
+            border,
+            original,
+            table,
+            reach,
+            texture,
+        )),
+        Listed::Refused(number) => refused(number),
     }
 }

@@ -1,0 +1,2 @@
+-- Laws of the calls for C.
+pub mod Built

@@ -1,0 +1,32 @@
+-- `told` meets its contract, case by case. Assumes nothing.
+use mathlib.Core.Path.{ap}
+use mir.Syntax.{w32}
+use mir.ValLaws.{toZ-ofZ}
+use Rattle.choice.specs.Answer.{chooseTold}
+use Rattle.depth_bench.specs.Structs.{choiceOf}
+use borrow.Author.Needs.{needs}
+use Rattle.depth_bench.proofs.told.Statement.{statement}
+use Rattle.depth_bench.proofs.told.Tie as tie
+
+enum-known-answer : tie.Need-enum-known-answer
+enum-known-answer c = search needs
+
+enum-known-answer-2 : tie.Need-enum-known-answer-2
+enum-known-answer-2 c = search needs
+
+refused-requires : tie.Need-refused-requires
+refused-requires c κs = search needs
+
+returns : tie.Need-returns
+returns c =
+    let b = c .before .before .answer .given .0 .0 in
+    let e = toZ-ofZ w32 (b .off0) (search needs) in
+    let f = toZ-ofZ w32 (b .off1) (search needs) in
+    cc (e, f, ap (λ a. choiceOf (chooseTold a)) (c .before .before .answer .given .1))
+
+returns-2 : tie.Need-returns-2
+returns-2 c = cc
+
+pub told-spec : {M : Type 1} → statement M
+told-spec =
+    tie.close (tie.spec enum-known-answer enum-known-answer-2 refused-requires returns returns-2)
