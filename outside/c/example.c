@@ -10,7 +10,7 @@ static void print_row(const uint8_t *row) {
 
 int main(void) {
     /* The neighbours: a left run that grows bright downward, and a dark top run. */
-    uint8_t border[32], original[64], predicted[64], table[] = { 20, 60, 100, 140, 180, 220 };
+    uint8_t border[32], original[64], predicted[64], table[] = { 20, 40, 60, 120, 160, 210 };
     for (int i = 0; i < 16; i++) border[i] = i < 4 ? 30 : 215;
     for (int i = 0; i < 16; i++) border[16 + i] = 30;
 

@@ -30,10 +30,9 @@ void plain_predict(size_t n, uint64_t word, const uint8_t *border, const uint8_t
     uint8_t *block) {
     int32_t depth[2], first = mark(n, word, 0, 0);
     depths(n, word, border, depth);
-    for (size_t i = 0; i < n * n; i++) {
-        int32_t m = word >> i & 1;
-        block[i] = (uint8_t)value_at(table, table_len, index_of(table, table_len, depth[m != first]) + (m ? off1 : off0));
-    }
+    uint8_t unmarked = (uint8_t)value_at(table, table_len, index_of(table, table_len, depth[first]) + off0);
+    uint8_t marked = (uint8_t)value_at(table, table_len, index_of(table, table_len, depth[!first]) + off1);
+    for (size_t i = 0; i < n * n; i++) block[i] = word >> i & 1 ? marked : unmarked;
 }
 
 /* What the samples of one side cost at a value. */
