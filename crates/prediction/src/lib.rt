@@ -3,6 +3,7 @@ mod block;
 mod offset;
 mod sides;
 
+pub use block::checked;
 pub use block::predict;
 use depth_table::DepthValue;
 pub use offset::clamped_index;
