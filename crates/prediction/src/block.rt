@@ -41,7 +41,7 @@ fn lengths_ok(n: usize, neighbours: usize, samples: usize) -> bool
 }
 
 // The number where the check does not hold, else what the checks after it say.
-pub fn checked(ok: bool, number: u8, rest: u8) -> u8
+fn check(ok: bool, number: u8, rest: u8) -> u8
     ensures { λ r. ⌜ r ≡ unless ok number rest ⌝ }
 {
     if ok { rest } else { number }
@@ -66,8 +66,8 @@ fn predict_refusal(
     let inside = pattern::word_ok(n, word);
     let offset0 = offset::offset_ok(off0);
     let offset1 = offset::offset_ok(off1);
-    let later = checked(inside, 5, checked(offset0, 4, checked(offset1, 4, 0)));
-    checked(lengths, 2, checked(sound, 3, later))
+    let later = check(inside, 5, check(offset0, 4, check(offset1, 4, 0)));
+    check(lengths, 2, check(sound, 3, later))
 }
 
 // Writes the predicted block of n * n samples and answers the number of marks, or refuses with 1, 2, 3, 5 or 4 and writes nothing.

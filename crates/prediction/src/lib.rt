@@ -3,11 +3,8 @@ mod block;
 mod offset;
 mod sides;
 
-pub use block::checked;
 pub use block::predict;
 use depth_table::DepthValue;
-pub use offset::clamped_index;
-pub use offset::level;
 pub use offset::offset_ok;
 pub use sides::side_depth;
 pub use sides::side_depths;

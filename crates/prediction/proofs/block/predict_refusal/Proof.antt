@@ -32,20 +32,20 @@ offset-ok-requires c κs = search needs
 offset-ok-requires-2 : tie.Need-offset-ok-requires-2
 offset-ok-requires-2 c κs = search needs
 
-checked-requires : tie.Need-checked-requires
-checked-requires c κs = search needs
+check-requires : tie.Need-check-requires
+check-requires c κs = search needs
 
-checked-requires-2 : tie.Need-checked-requires-2
-checked-requires-2 c κs = search needs
+check-requires-2 : tie.Need-check-requires-2
+check-requires-2 c κs = search needs
 
-checked-requires-3 : tie.Need-checked-requires-3
-checked-requires-3 c κs = search needs
+check-requires-3 : tie.Need-check-requires-3
+check-requires-3 c κs = search needs
 
-checked-requires-4 : tie.Need-checked-requires-4
-checked-requires-4 c κs = search needs
+check-requires-4 : tie.Need-check-requires-4
+check-requires-4 c κs = search needs
 
-checked-requires-5 : tie.Need-checked-requires-5
-checked-requires-5 c κs = search needs
+check-requires-5 : tie.Need-check-requires-5
+check-requires-5 c κs = search needs
 
 returns-2 : tie.Need-returns-2
 unfolding predictRefusal
@@ -66,9 +66,9 @@ predict-refusal-spec =
     word-ok-requires
     offset-ok-requires
     offset-ok-requires-2
-    checked-requires
-    checked-requires-2
-    checked-requires-3
-    checked-requires-4
-    checked-requires-5
+    check-requires
+    check-requires-2
+    check-requires-3
+    check-requires-4
+    check-requires-5
     returns-2)
