@@ -1,19 +1,24 @@
 -- What holds where no check of a call fails. Assumes nothing.
 use Prim.Native.Nat.{ℕ, _*_, _^_, _≤_, _<_}
-use mathlib.Core.Path.{_≡_}
+use mathlib.Core.Path.{_≡_, sym, _∙_}
 use mathlib.Core.Bool.{Bool, true}
 use mathlib.Core.List.{List}
+use lib.Count.{ones}
 use lib.Dec.{eqb}
 use lib.IntN.{ℤ}
 use lib.ListN.{length}
 use borrow.Author.Tests.{eqb-true, ltb-true}
+use Rattle.arith.specs.Bits.{bit, testBit}
+use Rattle.arith.specs.Checks.{given}
+use Rattle.arith.specs.Sum.{sumTo}
 use Rattle.arith.proofs.Bools.{both-of}
-use Rattle.arith.proofs.CheckLaws.{passed}
+use Rattle.arith.proofs.CheckLaws.{passed, given-means}
 use Rattle.depth_table.specs.Table.{tableOk}
 use Rattle.pattern.specs.Size.{sizeOk, wordOk}
+use Rattle.pattern.proofs.PatternLaws.{marks-counted}
 use Rattle.pattern.proofs.SizeLaws.{size-bounds}
 use Rattle.prediction.specs.Offset.{offsetOk}
-use Rattle.prediction.specs.Answer.{sidesRefusal, lengthsOk, predictRefusal}
+use Rattle.prediction.specs.Answer.{sidesRefusal, lengthsOk, predictRefusal, predictAnswer}
 
 -- `side_depths` refuses nothing
 pub record SidesAccepted (n w : ℕ) (s : List ℕ) : Type 0 where
@@ -68,3 +73,12 @@ predict-accepted n w neighbours t off0 off1 samples h =
       first = p₅ .0;
       second = p₆ .0;
     }
+
+-- the number of marks in the answer is the number of marked samples
+pub marks-answered :
+    (n w : ℕ) (s t : List ℕ) (off0 off1 : ℤ) (samples count : ℕ) → predictAnswer n w s t off0 off1 samples ≡ given count
+    → count ≡ sumTo (λ k. bit (testBit w k)) (n * n)
+unfolding predictAnswer
+marks-answered n w s t off0 off1 samples count e =
+    let m = given-means _ (ones w) count e in
+    sym (m .1) ∙ marks-counted n w (predict-accepted n w (length s) t off0 off1 samples (m .0) .inside)

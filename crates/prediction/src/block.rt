@@ -40,7 +40,7 @@ fn lengths_ok(n: usize, neighbours: usize, samples: usize) -> bool
     samples == n * n
 }
 
-// The number where the check fails, else what the checks after it say.
+// The number where the check does not hold, else what the checks after it say.
 fn check(ok: bool, number: u8, rest: u8) -> u8
     ensures { λ r. ⌜ r ≡ unless ok number rest ⌝ }
 {
@@ -61,11 +61,13 @@ fn predict_refusal(
     if !pattern::size_ok(n) {
         return 1;
     }
-    let offset1 = check(offset::offset_ok(off1), 4, 0);
-    let offsets = check(offset::offset_ok(off0), 4, offset1);
-    let words = check(pattern::word_ok(n, word), 5, offsets);
-    let tables = check(depth_table::is_table(table), 3, words);
-    check(lengths_ok(n, neighbours, samples), 2, tables)
+    let lengths = lengths_ok(n, neighbours, samples);
+    let sound = depth_table::is_table(table);
+    let inside = pattern::word_ok(n, word);
+    let offset0 = offset::offset_ok(off0);
+    let offset1 = offset::offset_ok(off1);
+    let later = check(inside, 5, check(offset0, 4, check(offset1, 4, 0)));
+    check(lengths, 2, check(sound, 3, later))
 }
 
 // Writes the predicted block of n * n samples and answers the number of marks, or refuses with 1, 2, 3, 5 or 4 and writes nothing.

@@ -5,8 +5,6 @@ mod sides;
 
 pub use block::predict;
 use depth_table::DepthValue;
-pub use offset::clamped_index;
-pub use offset::level;
 pub use offset::offset_ok;
 pub use sides::side_depth;
 pub use sides::side_depths;

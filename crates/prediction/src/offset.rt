@@ -34,7 +34,7 @@ fn lesser(a: usize, b: usize) -> usize
 }
 
 // An index plus an offset, clamped to 0 .. count - 1.
-pub fn clamped_index(count: usize, index: DepthIndex, off: i32) -> DepthIndex
+fn clamped_index(count: usize, index: DepthIndex, off: i32) -> DepthIndex
     ensures { λ r. ⌜ r .0 ≡ clamped count (index .0) off ⌝ }
 {
     let i = index.0;
@@ -51,7 +51,7 @@ pub fn clamped_index(count: usize, index: DepthIndex, off: i32) -> DepthIndex
 }
 
 // The table value at the index of a depth plus an offset, clamped; 0 in an empty table.
-pub fn level(table: &[u8], d: DepthValue, off: i32) -> u8
+pub(crate) fn level(table: &[u8], d: DepthValue, off: i32) -> u8
     ensures { λ r. ⌜ r ≡ levelOf (now (table .entry)) (d .0) off ⌝ }
 {
     let index = depth_table::nearest_index(table, d);

@@ -1,4 +1,4 @@
--- `predict_refusal` meets its contract: the size first, then the other checks from the last to the first.
+-- `predict_refusal` meets its contract: the size first, then the other checks in their order.
 use mathlib.Core.Path.{sym, _∙_}
 use mir.Syntax.{w32}
 use mir.ValLaws.{toZ-ofZ}
@@ -16,34 +16,33 @@ returns : tie.Need-returns
 unfolding predictRefusal
 returns c = rw (sym (c .before .size-ok .ensures) ∙ not-true _ (c .if1 .taken))
 
-offset-ok-requires : tie.Need-offset-ok-requires
-offset-ok-requires c κs = search needs
-
-check-requires : tie.Need-check-requires
-check-requires c κs = search needs
-
-offset-ok-requires-2 : tie.Need-offset-ok-requires-2
-offset-ok-requires-2 c κs = search needs
-
-check-requires-2 : tie.Need-check-requires-2
-check-requires-2 c κs = search needs
-
-word-ok-requires : tie.Need-word-ok-requires
-word-ok-requires c κs = search needs
-
-check-requires-3 : tie.Need-check-requires-3
-check-requires-3 c κs = search needs
+lengths-ok-requires : tie.Need-lengths-ok-requires
+lengths-ok-requires c κs =
+    size-bounds (c .before .before .before .args .n) (sym (c .before .size-ok .ensures) ∙ not-false _ (c .if1 .left)) .1
 
 is-table-requires : tie.Need-is-table-requires
 is-table-requires c κs = search needs
 
+word-ok-requires : tie.Need-word-ok-requires
+word-ok-requires c κs = search needs
+
+offset-ok-requires : tie.Need-offset-ok-requires
+offset-ok-requires c κs = search needs
+
+offset-ok-requires-2 : tie.Need-offset-ok-requires-2
+offset-ok-requires-2 c κs = search needs
+
+check-requires : tie.Need-check-requires
+check-requires c κs = search needs
+
+check-requires-2 : tie.Need-check-requires-2
+check-requires-2 c κs = search needs
+
+check-requires-3 : tie.Need-check-requires-3
+check-requires-3 c κs = search needs
+
 check-requires-4 : tie.Need-check-requires-4
 check-requires-4 c κs = search needs
-
-lengths-ok-requires : tie.Need-lengths-ok-requires
-lengths-ok-requires c κs =
-    let test = c .before .before .before .before .before .before .before .before in
-    size-bounds (test .before .before .before .args .n) (sym (test .before .size-ok .ensures) ∙ not-false _ (test .if1 .left)) .1
 
 check-requires-5 : tie.Need-check-requires-5
 check-requires-5 c κs = search needs
@@ -62,14 +61,14 @@ predict-refusal-spec =
     (tie.spec
     size-ok-requires
     returns
-    offset-ok-requires
-    check-requires
-    offset-ok-requires-2
-    check-requires-2
-    word-ok-requires
-    check-requires-3
-    is-table-requires
-    check-requires-4
     lengths-ok-requires
+    is-table-requires
+    word-ok-requires
+    offset-ok-requires
+    offset-ok-requires-2
+    check-requires
+    check-requires-2
+    check-requires-3
+    check-requires-4
     check-requires-5
     returns-2)
