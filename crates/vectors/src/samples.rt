@@ -16,27 +16,39 @@ fn either(first: bool, a: u8, b: u8) -> u8 {
 
 // Whether the place is at one end of 0 .. last.
 fn is_end(k: usize, last: usize) -> bool {
-    k == 0 || k == last
+    if k == 0 { true } else { k == last }
+}
+
+// Whether both hold.
+fn both(a: bool, b: bool) -> bool {
+    if a { b } else { false }
+}
+
+// Whether texture 3, 4, 5, 6 or 9 has the first of its two values at column x and row y of N.
+fn is_first(case: usize, x: usize, y: usize, last: usize) -> bool {
+    match case {
+        3 => both(x == 0, y == 0),
+        4 => both(x == last, y == last),
+        5 => y == 0,
+        6 => x == 0,
+        _ => both(is_end(x, last), is_end(y, last)),
+    }
 }
 
 // Sample i of a texture of section `contours`; `byte` is its pseudo-random byte.
 fn texture_sample(case: usize, n: usize, i: usize, byte: u8) -> u8
     requires { ⌜ 1 ≤ n ⌝ }
 {
-    let x = i % n;
-    let y = i / n;
-    let last = n - 1;
+    let first = is_first(case, i % n, i / n, n - 1);
     match case {
         0 => 0,
         1 => 255,
         2 => 100,
-        3 => either(i == 0, 255, 0),
-        4 => either(x == last && y == last, 255, 0),
-        5 => either(y == 0, 200, 50),
-        6 => either(x == 0, 200, 50),
+        3 | 4 => either(first, 255, 0),
+        5 | 6 => either(first, 200, 50),
         7 => (i % 256) as u8,
         8 => 255 - (i % 256) as u8,
-        9 => either(is_end(x, last) && is_end(y, last), 100, 90),
+        9 => either(first, 100, 90),
         10..=17 => byte,
         _ => byte % 4,
     }
