@@ -3,6 +3,8 @@ pub mod OffsetLaws
 pub mod SideLaws
 pub mod TallyLaws
 pub mod TrialLaws
+pub mod WeighLaws
+pub mod SearchLaws
 pub mod AcceptLaws
 pub mod NumberLaws
 pub mod LeastLaws

@@ -1,5 +1,6 @@
 // The choice of a record (document 01, "Choice").
 mod partition;
+mod search;
 
 // A record and its cost.
 pub struct Best {

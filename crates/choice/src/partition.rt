@@ -5,8 +5,8 @@ ghost use Prim.Native.Nat.{ℕ, _+_, _-_, _*_, _<_, _≤_};
 ghost use lib.ListN.{length, getD};
 ghost use Rattle.arith.specs.Distance.{clamped};
 ghost use Rattle.choice.specs.Offset.{offset};
-ghost use Rattle.choice.specs.Search.{belongs, sideCost};
-ghost use Rattle.choice.specs.Tally.{Tallied, Costs, Better, TrialOf};
+ghost use Rattle.choice.specs.Search.{belongs, trialCost};
+ghost use Rattle.choice.specs.Tally.{Tallied, Costs, Better, TrialOf, blockCase, Weighable};
 use depth_table::DepthIndex;
 
 // Whether sample k belongs to partition `side` of a pattern: true is partition 1, the marked samples.
@@ -24,7 +24,7 @@ fn wide(x: u8) -> usize
 }
 
 // The samples of a partition: how many have each value, how many there are, and their sum.
-pub(crate) struct Tally {
+struct Tally {
     counts: [u32; 256],
     size: u32,
     sum: u32,
@@ -70,8 +70,8 @@ fn side_costs(samples: &[u8], word: u64, side: bool) -> [u32; 256]
 
 // The number of an offset, and what a partition costs there.
 pub(crate) struct Trial {
-    number: usize,
-    cost: u32,
+    pub number: usize,
+    pub cost: u32,
 }
 
 // The better of a trial and a later one: the later only where it costs less.
@@ -129,4 +129,23 @@ fn best_of_costs(costs: &[u32; 256], table: &[u8], index: DepthIndex, reach: usi
         best = better(better(best, low, minus), high, plus);
     }
     best
+}
+
+// The first best offset of a partition of a pattern, and what the partition costs there.
+pub(crate) fn best_offset(
+    n: usize,
+    word: u64,
+    side: bool,
+    border: &[u8],
+    original: &[u8],
+    table: &[u8],
+    reach: usize,
+) -> Trial
+    requires { ⌜ Weighable n word (now border) (now original) (now table) reach ⌝ }
+    ensures { λ r. ⌜ TrialOf (trialCost (blockCase n (now (border .entry)) (now (original .entry)) (now (table .entry)) reach) word side) (2 * reach) (r .number) (r .cost) × (r .cost ≤ 65280) ⌝ }
+{
+    let depth = prediction::side_depth(n, word, border, side);
+    let index = depth_table::nearest_index(table, depth);
+    let costs = side_costs(original, word, side);
+    best_of_costs(&costs, table, index, reach)
 }
