@@ -1,6 +1,6 @@
 -- What holds of a case that is not refused, and that such a case is not refused. Assumes nothing.
 use Prim.Native.Nat.{ℕ, zero, suc, _+_, _*_, _≤_, _<_}
-use mathlib.Core.Path.{_≡_, refl, sym, ap, _∙_}
+use mathlib.Core.Path.{_≡_, refl, sym, ap, ap₂, _∙_}
 use mathlib.Core.Bool.{Bool, true, false, _&&_, _||_}
 use mathlib.Core.List.{List}
 use mathlib.Core.Logic.{_⊎_, inl, inr, ⊎-elim}
@@ -102,3 +102,31 @@ accepted C h =
       near = leb-true (C .reach) 255 (e .0);
       some = ⊎-elim (λ p. inl (ltb-true 0 (C .count) p)) (λ p. inr p) (either-of (ltb 0 (C .count)) (textured C) (f .0));
     }
+
+-- ---- the refusal as the code finds it
+
+unless-by : (k : ℕ) {a b : Bool} {r s : ℕ} → a ≡ b → r ≡ s → unless a k r ≡ unless b k s
+unless-by k p q = ap₂ (λ (x : Bool) (y : ℕ). unless x k y) p q
+
+module _ (C : Case) where
+  abbrev allLengths : Bool
+  allLengths = lengthsOk (C .n) (length (C .list)) (C .count) (length (C .neighbours)) (length (C .original)) (length (C .texture))
+
+  pub refused-size : sizeOk (C .n) ≡ false → 1 ≡ chooseRefusal C
+  unfolding chooseRefusal
+  refused-size h = rw h
+
+  pub refused-length : sizeOk (C .n) ≡ true → allLengths ≡ false → 2 ≡ chooseRefusal C
+  unfolding chooseRefusal
+  refused-length ok h = rw (ok, h)
+
+  -- the checks after the lengths, the last one first
+  pub refused-rest :
+      sizeOk (C .n) ≡ true → allLengths ≡ true → {table words some : Bool} {r₃ r₅ r₄ r₁₀ : ℕ}
+      → some ≡ ltb 0 (C .count) || textured C → r₁₀ ≡ unless some 10 0 → r₄ ≡ unless (leb (C .reach) 255) 4 r₁₀
+      → words ≡ wordsOk (C .n) (C .list) (C .count) → r₅ ≡ unless words 5 r₄ → table ≡ tableOk (C .table) → r₃ ≡ unless table 3 r₅
+      → r₃ ≡ chooseRefusal C
+  unfolding chooseRefusal
+  refused-rest ok lengths es e₁₀ e₄ ew e₅ et e₃ =
+      rw (ok, lengths)
+      (e₃ ∙ unless-by 3 et (e₅ ∙ unless-by 5 ew (e₄ ∙ unless-by 4 {a = leb (C .reach) 255} refl (e₁₀ ∙ unless-by 10 es refl))))

@@ -8,3 +8,4 @@ pub mod SearchLaws
 pub mod AcceptLaws
 pub mod NumberLaws
 pub mod LeastLaws
+pub mod AnswerLaws

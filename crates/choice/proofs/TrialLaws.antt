@@ -4,7 +4,7 @@ use mathlib.Core.Path.{_≡_, refl, sym, ap, subst, _∙_}
 use mathlib.Core.Logic.{_⊎_, ⊎-elim}
 use mathlib.Core.List.{List}
 use native.Mathlib.Omega.{arith}
-use lib.ListN.{getD}
+use lib.ListN.{length, getD}
 use lib.IntN.{ℤ, pos, negsuc}
 use Rattle.arith.specs.Distance.{clamped}
 use Rattle.arith.specs.Least.{First, leastTo}
@@ -31,9 +31,14 @@ clamped-down count i (suc j) h l =
     let e : 2 * suc j - 1 ≡ 2 * j + 1 = omega arith in
     rw (e, offset-odd j) (omega arith)
 
--- the cost at an index that is another
-pub cost-by : (costs table : List ℕ) {x i j : ℕ} → x ≡ getD costs (getD table i 0) 0 → i ≡ j → x ≡ getD costs (getD table j 0) 0
-cost-by costs table e q = e ∙ ap (λ (k : ℕ). getD costs (getD table k 0) 0) q
+-- what the offset with the number t costs, where the depth has the index `at`
+abbrev pub costAt : List ℕ → List ℕ → ℕ → ℕ → ℕ
+costAt costs table at t = getD costs (getD table (clamped (length table) at (offset t)) 0) 0
+
+pub cost-by :
+    (costs table : List ℕ) (at t : ℕ) {x i : ℕ} → x ≡ getD costs (getD table i 0) 0 → i ≡ clamped (length table) at (offset t)
+    → x ≡ costAt costs table at t
+cost-by costs table at t e q = e ∙ ap (λ (k : ℕ). getD costs (getD table k 0) 0) q
 
 -- ---- the loop
 

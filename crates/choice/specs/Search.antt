@@ -51,15 +51,14 @@ lastPattern C = cond (textured C) (C .count) (C .count - 1)
 unfoldable pub bestPattern : Case → ℕ
 bestPattern C = leastTo (λ p. bestCost C (patternAt C p)) (lastPattern C)
 
+-- the record of the pattern p and of two offsets, by their numbers
+abbrev pub recordBy : ℕ → ℕ → ℕ → ℕ → Record
+recordBy count p t0 t1 =
+    record { kind = cond (ltb p count) 0 1; entry = cond (ltb p count) p 0; off0 = offset t0; off1 = offset t1 }
+
 -- the record of pattern p with the best offsets
 abbrev pub recordAt : Case → ℕ → Record
-recordAt C p =
-    record {
-      kind = cond (ltb p (C .count)) 0 1;
-      entry = cond (ltb p (C .count)) p 0;
-      off0 = offset (bestTrial C (patternAt C p) false);
-      off1 = offset (bestTrial C (patternAt C p) true);
-    }
+recordAt C p = recordBy (C .count) p (bestTrial C (patternAt C p) false) (bestTrial C (patternAt C p) true)
 
 -- the chosen record and its cost
 unfoldable pub chosen : Case → Record × ℕ

@@ -1,6 +1,10 @@
 // The choice of a record (document 01, "Choice").
+mod answer;
 mod partition;
+mod refusal;
 mod search;
+
+pub use answer::choose;
 
 // A record and its cost.
 pub struct Best {

@@ -1,20 +1,13 @@
 -- `best_of_costs` meets its contract: before turn k the best of the numbers 0 .. 2k - 2 is kept. Assumes nothing.
 use Prim.Native.Nat.{ℕ, _+_, _-_, _*_, _≤_, _<_}
-use mathlib.Core.List.{List}
 use mathlib.Core.Path.{_≡_, sym}
 use native.Mathlib.Omega.{arith}
 use borrow.Author.Needs.{needs}
-use lib.ListN.{length, getD}
-use Rattle.arith.specs.Distance.{clamped}
+use lib.ListN.{length}
 use Rattle.arith.proofs.LeastLaws.{Kept, kept-one}
-use Rattle.choice.specs.Offset.{offset}
-use Rattle.choice.proofs.TrialLaws.{clamped-zero, cost-by, kept-two, kept-trials}
+use Rattle.choice.proofs.TrialLaws.{clamped-zero, costAt, cost-by, kept-two, kept-trials}
 use Rattle.choice.proofs.partition.best_of_costs.Statement.{statement}
 use Rattle.choice.proofs.partition.best_of_costs.Tie as tie
-
--- what the offset with the number t costs
-abbrev costAt : List ℕ → List ℕ → ℕ → ℕ → ℕ
-costAt costs table at t = getD costs (getD table (clamped (length table) at (offset t)) 0) 0
 
 abbrev Inv-loop : tie.InvT-loop
 Inv-loop costs table reach at count end best₀ k₀ best k = (1 ≤ k) × (k ≤ end) × Kept (costAt costs table at) (2 * k - 1) (best .number) (best .cost)
@@ -34,7 +27,7 @@ loop-holds c =
     let a = s .args in (
       omega arith,
       omega arith,
-      kept-one (cost-by (a .costs .now) (a .table .now) (c .cost-at .ensures) (sym (clamped-zero (length (a .table .now)) (a .index .0) (s .pre .0)))),
+      kept-one (cost-by (a .costs .now) (a .table .now) (a .index .0) 0 (c .cost-at .ensures) (sym (clamped-zero (length (a .table .now)) (a .index .0) (s .pre .0)))),
     )
 
 moved-requires : tie.Need-moved-requires Inv-loop μ-loop
@@ -75,8 +68,8 @@ loop-again c =
     let s = c .before .before .before .before .before .before .before .before .before .before in
     let a = s .args in
     let l = c .before .before .before .before .before .before .before .loop in
-    let minus = cost-by (a .costs .now) (a .table .now) (c .before .before .before .before .cost-at2 .ensures) (c .before .before .before .before .before .moved .ensures .0) in
-    let plus = cost-by (a .costs .now) (a .table .now) (c .before .before .cost-at3 .ensures) (c .before .before .before .moved2 .ensures .0) in
+    let minus = cost-by (a .costs .now) (a .table .now) (a .index .0) (2 * l .k - 1) (c .before .before .before .before .cost-at2 .ensures) (c .before .before .before .before .before .moved .ensures .0) in
+    let plus = cost-by (a .costs .now) (a .table .now) (a .index .0) (2 * l .k) (c .before .before .cost-at3 .ensures) (c .before .before .before .moved2 .ensures .0) in
     (omega arith, omega arith, kept-two (l .inv .0) (l .inv .2) minus plus (c .before .better .ensures) (c .better2 .ensures))
 
 returns : tie.Need-returns Inv-loop μ-loop
