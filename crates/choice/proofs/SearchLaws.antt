@@ -1,0 +1,130 @@
+-- What the search over the patterns relies on and keeps: every pattern can be weighed, and the first of least cost so far is held with its
+-- offsets. Assumes nothing.
+use Prim.Native.Nat.{ℕ, zero, suc, _+_, _-_, _*_, _^_, _≤_, _<_, zero-le}
+use mathlib.Core.Path.{_≡_, refl, sym, ap, ap₂, subst, _∙_}
+use mathlib.Core.Bool.{Bool, true, false, cond}
+use mathlib.Core.List.{List, [], _∷_}
+use mathlib.Core.Logic.{_⊎_, inl, inr, ⊎-elim}
+use native.Mathlib.Decide.{decLt}
+use native.Mathlib.Omega.{arith}
+use lib.Dec.{eqb, ltb}
+use lib.ListN.{length, getD}
+use borrow.Author.Tests.{eq-eqb, lt-ltb, le-ltb}
+use Rattle.arith.specs.Bits.{bits}
+use Rattle.arith.specs.Checks.{unless, Answer, refused, given, answer}
+use Rattle.arith.specs.Least.{leastTo}
+use Rattle.arith.proofs.BitLaws.{bits-ext, bits-none}
+use Rattle.arith.proofs.CheckLaws.{given-means, refused-means}
+use Rattle.arith.proofs.LeastLaws.{Kept, kept-one, kept-new, kept-old, kept-all}
+use Rattle.pattern.specs.Size.{sizeOk, wordOk}
+use Rattle.pattern.specs.Answer.{samplesRefusal, contourAnswer}
+use Rattle.pattern.specs.Contour.{threshold, contourOf}
+use Rattle.pattern.proofs.ContourLaws.{contour-lt}
+use Rattle.prediction.specs.Answer.{sidesRefusal}
+use Rattle.choice.specs.Record.{Case, caseOf}
+use Rattle.choice.specs.Search.{trialCost, bestTrial, bestCost, patternAt, lastPattern, bestPattern}
+use Rattle.choice.specs.Tally.{TrialOf, blockCase, Weighable, SidesOf, PickedOf}
+use Rattle.choice.proofs.AcceptLaws.{Accepted, words-at}
+
+-- ---- one pattern
+
+-- a pattern's cost does not depend on the other patterns
+pub sides-at :
+    (C : Case) (p : ℕ) {w a b c : ℕ} → w ≡ patternAt C p → SidesOf (blockCase (C .n) (C .neighbours) (C .original) (C .table) (C .reach)) w a b c
+    → SidesOf C (patternAt C p) a b c
+unfolding bestCost
+sides-at C p {w} {a} {b} {c} e q =
+    subst (λ (x : ℕ). SidesOf C x a b c) e (record { first = q .first; second = q .second; its-cost = q .its-cost })
+
+-- both partitions together
+pub both-sides :
+    (C : Case) (w : ℕ) {a b c d : ℕ} → TrialOf (trialCost C w false) (2 * C .reach) a c → TrialOf (trialCost C w true) (2 * C .reach) b d
+    → SidesOf C w a b (c + d)
+unfolding bestCost
+both-sides C w p q =
+    record {
+      first = p .at-least;
+      second = q .at-least;
+      its-cost = ap₂ _+_ (p .its-cost ∙ ap (trialCost C w false) (p .at-least)) (q .its-cost ∙ ap (trialCost C w true) (q .at-least));
+    }
+
+-- ---- the contour
+
+none-at : (t : List ℕ) → length t ≡ 0 → (i : ℕ) → getD t i 0 ≡ 0
+none-at [] e i = refl
+none-at (a ∷ t) e i = absurd (omega arith)
+
+-- without texture nothing is marked
+pub contour-none : (n : ℕ) (t : List ℕ) → length t ≡ 0 → 0 ≡ contourOf n t
+unfolding contourOf
+contour-none n t e =
+    sym (bits-ext _ _ (n * n) (λ i l. ap (ltb (threshold n t)) (none-at t e i) ∙ le-ltb (threshold n t) 0 zero-le) ∙ bits-none (n * n))
+
+pub texture-judged : (n texture : ℕ) → sizeOk n ≡ true → (texture ≡ 0) ⊎ (texture ≡ n * n) → (texture ≡ 0) ⊎ (samplesRefusal n texture ≡ 0)
+unfolding samplesRefusal
+texture-judged n texture ok = ⊎-elim (λ e. inl e) (λ e. inr (rw (ok, eq-eqb texture (n * n) e)))
+
+-- what `contour` answers
+pub contour-word : (n : ℕ) (t : List ℕ) {w : ℕ} {r : Answer ℕ} → r ≡ contourAnswer n t → r ≡ given w → w ≡ contourOf n t
+unfolding contourAnswer
+contour-word n t {w} e q = sym (given-means (samplesRefusal n (length t)) (contourOf n t) w (sym e ∙ q) .1)
+
+pub contour-refused :
+    (n : ℕ) (t : List ℕ) {k : ℕ} {r : Answer ℕ} → (length t ≡ 0) ⊎ (samplesRefusal n (length t) ≡ 0) → r ≡ contourAnswer n t → r ≡ refused k
+    → 0 ≡ contourOf n t
+unfolding contourAnswer
+contour-refused n t {k} h e q =
+    ⊎-elim (λ z. contour-none n t z) (λ z. absurd (refused-means (samplesRefusal n (length t)) k (contourOf n t) (sym e ∙ q) .1 z)) h
+
+pub pattern-by :
+    (C : Case) (p : ℕ) {w contour : ℕ} → w ≡ cond (ltb p (C .count)) (getD (C .list) p 0) contour → contour ≡ contourOf (C .n) (C .texture)
+    → w ≡ patternAt C p
+pattern-by C p e q = e ∙ ap (λ (x : ℕ). cond (ltb p (C .count)) (getD (C .list) p 0) x) q
+
+pub last-le : (b : Bool) (count : ℕ) → cond b count (count - 1) ≤ count
+last-le true count = omega arith
+last-le false count = omega arith
+
+-- ---- every pattern of an accepted case can be weighed
+
+sides-pass : (n w : ℕ) (s : List ℕ) → sizeOk n ≡ true → length s ≡ 4 * n → wordOk n w ≡ true → sidesRefusal n w s ≡ 0
+unfolding sidesRefusal
+sides-pass n w s ok long inside = rw (ok, eq-eqb (length s) (4 * n) long, inside)
+
+module _ (C : Case) (k : Accepted C) where
+  pattern-inside : (p : ℕ) → Dec (p < C .count) → wordOk (C .n) (patternAt C p) ≡ true
+  pattern-inside p (yes l) = rw (lt-ltb p (C .count) l) (words-at (C .n) (C .list) (C .count) (k .words) p l)
+  pattern-inside p (no l) = rw (le-ltb p (C .count) (omega arith)) (lt-ltb _ _ (contour-lt (C .n) (C .texture)))
+
+  pub weighable : (p w : ℕ) → w ≡ patternAt C p → Weighable (C .n) w (C .neighbours) (C .original) (C .table) (C .reach)
+  weighable p w e =
+      record {
+        sides = sides-pass (C .n) w (C .neighbours) (k .size) (k .lengths .bordered) (rw e (pattern-inside p (decLt p (C .count))));
+        square = k .lengths .square;
+        sound = k .sound;
+        near = k .near;
+      }
+
+-- ---- the loop
+
+-- after n patterns `at` is the first of least cost, with the numbers a and b of its offsets
+pub record KeptSides (C : Case) (n at a b cost : ℕ) : Type 0 where
+  pub kept : Kept (λ p. bestCost C (patternAt C p)) n at cost
+  pub sides : SidesOf C (patternAt C at) a b cost
+
+module _ (C : Case) where
+  pub sides-one : {a b c : ℕ} → SidesOf C (patternAt C 0) a b c → KeptSides C 1 0 a b c
+  sides-one p = record { kept = kept-one (p .its-cost); sides = p }
+
+  -- a turn: pattern n is taken, or passed
+  pub sides-new :
+      {n at a b c a′ b′ c′ : ℕ} → KeptSides C n at a b c → SidesOf C (patternAt C n) a′ b′ c′ → c′ < c → KeptSides C (n + 1) n a′ b′ c′
+  sides-new {c′ = c′} k p l = record { kept = kept-new c′ (k .kept) (p .its-cost) l refl refl; sides = p }
+
+  pub sides-old :
+      {n at a b c a′ b′ c′ : ℕ} → KeptSides C n at a b c → SidesOf C (patternAt C n) a′ b′ c′ → c ≤ c′ → KeptSides C (n + 1) at a b c
+  sides-old {c′ = c′} k p l = record { kept = kept-old c′ (k .kept) (p .its-cost) l refl refl; sides = k .sides }
+
+  pub sides-all : {m at a b c : ℕ} → KeptSides C m at a b c → m ≡ lastPattern C + 1 → PickedOf C at a b c
+  unfolding bestPattern
+  sides-all k e = record { best = kept-all (lastPattern C) (k .kept) e; sides = k .sides }

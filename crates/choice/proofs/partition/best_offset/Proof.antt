@@ -1,0 +1,39 @@
+-- `best_offset` meets its contract: the costs by value, read at the clamped index, are those at the offsets. Assumes nothing.
+use Prim.Native.Nat.{_≤_}
+use native.Mathlib.Omega.{arith}
+use Rattle.choice.proofs.WeighLaws.{few-samples, index-in, trial-weighed}
+use borrow.Author.Needs.{needs}
+use Rattle.choice.proofs.partition.best_offset.Statement.{statement}
+use Rattle.choice.proofs.partition.best_offset.Tie as tie
+
+side-depth-requires : tie.Need-side-depth-requires
+side-depth-requires c κs = search needs
+
+nearest-index-requires : tie.Need-nearest-index-requires
+nearest-index-requires c κs = search needs
+
+side-costs-requires : tie.Need-side-costs-requires
+side-costs-requires c κs =
+    let s = c .before .before .before .before .before in
+    omega (arith, few-samples _ _ _ _ _ _ (s .pre))
+
+best-of-costs-requires : tie.Need-best-of-costs-requires
+best-of-costs-requires c κs =
+    let s = c .before .before .before .before .before .before .before in
+    index-in _ _ _ _ _ _ (s .pre) (s .args .side) (c .before .before .nearest-index .ensures) (c .before .before .before .side-depth .ensures)
+
+returns : tie.Need-returns
+returns c =
+    let s = c .before .before .before .before .before .before .before .before in
+    trial-weighed _ _ _ _ _ _ (s .pre) (s .args .side) (c .before .before .before .nearest-index .ensures) (c .before .before .before .before .side-depth .ensures)
+    (c .before .before .side-costs .ensures) (c .best-of-costs .ensures)
+
+pub best-offset-spec : {M : Type 1} → statement M
+best-offset-spec =
+    tie.close
+    (tie.spec
+    side-depth-requires
+    nearest-index-requires
+    side-costs-requires
+    best-of-costs-requires
+    returns)

@@ -1,0 +1,91 @@
+-- Document 01, "Choice": the records within the reach, what each predicts and costs, and the record of least cost. Assumes nothing.
+use Prim.Native.Nat.{ℕ, zero, suc, _*_, _≤_, _<_}
+use mathlib.Core.Path.{_≡_}
+use mathlib.Core.List.{List}
+use mathlib.Core.Logic.{_⊎_}
+use lib.IntN.{ℤ}
+use lib.ListN.{length, getD}
+use Rattle.arith.specs.Distance.{dist}
+use Rattle.arith.specs.Sum.{sumTo}
+use Rattle.pattern.specs.Contour.{contourOf}
+use Rattle.prediction.specs.Block.{predicted}
+use Rattle.choice.specs.Offset.{InReach, Sooner}
+
+-- what a choice is given: the size, the wedgelet list (document 01: the edge list) and its count, the neighbours (the border), the
+-- original samples, the depth table, the reach, and texture samples; no texture is the empty list
+pub record Case : Type 0 where
+  pub n : ℕ
+  pub list : List ℕ
+  pub count : ℕ
+  pub neighbours : List ℕ
+  pub original : List ℕ
+  pub table : List ℕ
+  pub reach : ℕ
+  pub texture : List ℕ
+
+abbrev pub caseOf : ℕ → List ℕ → ℕ → List ℕ → List ℕ → List ℕ → ℕ → List ℕ → Case
+caseOf n list count neighbours original table reach texture =
+    record {
+      n = n;
+      list = list;
+      count = count;
+      neighbours = neighbours;
+      original = original;
+      table = table;
+      reach = reach;
+      texture = texture;
+    }
+
+pub record Record : Type 0 where
+  pub kind : ℕ
+  pub entry : ℕ
+  pub off0 : ℤ
+  pub off1 : ℤ
+
+-- kind 0 with an entry below the count; kind 1, the contour (document 01: the outline), entry 0, if texture is lent
+abbrev pub PatternIn : Case → ℕ → ℕ → Type 0
+PatternIn C kind entry = ((kind ≡ 0) × (entry < C .count)) ⊎ ((kind ≡ 1) × (entry ≡ 0) × (0 < length (C .texture)))
+
+-- the records within the reach, tried or not
+pub record Within (C : Case) (r : Record) : Type 0 where
+  pub pattern-in : PatternIn C (r .kind) (r .entry)
+  pub off0-in : InReach (C .reach) (r .off0)
+  pub off1-in : InReach (C .reach) (r .off1)
+
+-- a record's pattern: the one that the list has at its entry, or for kind 1 the contour of the texture
+abbrev pub patternBy : Case → ℕ → ℕ → ℕ
+patternBy C zero entry = getD (C .list) entry 0
+patternBy C (suc k) entry = contourOf (C .n) (C .texture)
+
+abbrev pub patternOf : Case → Record → ℕ
+patternOf C r = patternBy C (r .kind) (r .entry)
+
+-- the predicted block of a pattern and two offsets
+abbrev pub predictionBy : Case → ℕ → ℤ → ℤ → List ℕ
+predictionBy C w off0 off1 = predicted (C .n) w (C .neighbours) (C .table) off0 off1
+
+abbrev pub predictionOf : Case → Record → List ℕ
+predictionOf C r = predictionBy C (patternOf C r) (r .off0) (r .off1)
+
+-- the sum of absolute differences between a prediction and the original
+unfoldable pub difference : Case → List ℕ → ℕ
+difference C p = sumTo (λ k. dist (getD p k 0) (getD (C .original) k 0)) (C .n * C .n)
+
+-- the cost of a record
+abbrev pub costOf : Case → Record → ℕ
+costOf C r = difference C (predictionOf C r)
+
+-- the order between equals: wedgelets in list order, then the contour; then off0, then off1, each in the order of offsets
+abbrev pub Before : Record → Record → Type 0
+Before r s =
+    (r .kind < s .kind)
+    ⊎ ((r .kind ≡ s .kind)
+    × ((r .entry < s .entry)
+    ⊎ ((r .entry ≡ s .entry) × (Sooner (r .off0) (s .off0) ⊎ ((r .off0 ≡ s .off0) × Sooner (r .off1) (s .off1))))))
+
+-- the record is the chosen one, and the cost is its own: no record within the reach costs less, and each one before it costs more
+pub record LeastRecord (C : Case) (r : Record) (cost : ℕ) : Type 0 where
+  pub within : Within C r
+  pub its-cost : cost ≡ costOf C r
+  pub least : (s : Record) → Within C s → cost ≤ costOf C s
+  pub first : (s : Record) → Within C s → Before s r → cost < costOf C s

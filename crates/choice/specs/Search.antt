@@ -1,0 +1,65 @@
+-- Document 01, "Choice", as a function: the cost of a record is what partition 0 costs at off0 and what partition 1 costs at off1, so
+-- each offset is chosen for itself, and then the pattern. Assumes nothing.
+use Prim.Native.Nat.{ℕ, _+_, _-_, _*_}
+use mathlib.Core.Bool.{Bool, true, false, cond, not}
+use mathlib.Core.List.{List}
+use lib.Dec.{ltb}
+use lib.ListN.{length, getD}
+use Rattle.arith.specs.Bits.{testBit}
+use Rattle.arith.specs.Distance.{dist}
+use Rattle.arith.specs.Least.{leastTo}
+use Rattle.arith.specs.Sum.{sumTo}
+use Rattle.pattern.specs.Contour.{contourOf}
+use Rattle.prediction.specs.Sides.{sideDepth}
+use Rattle.prediction.specs.Block.{levelOf}
+use Rattle.choice.specs.Offset.{offset}
+use Rattle.choice.specs.Record.{Case, Record}
+
+-- whether sample k belongs to partition m of the pattern w: partition 1 has the marked samples, partition 0 the others
+abbrev pub belongs : ℕ → Bool → ℕ → Bool
+belongs w m k = cond m (testBit w k) (not (testBit w k))
+
+-- what the samples of partition m, of the first c, cost where all of them are predicted as v
+unfoldable pub sideCost : ℕ → List ℕ → ℕ → Bool → ℕ → ℕ
+sideCost c samples w m v = sumTo (λ k. cond (belongs w m k) (dist v (getD samples k 0)) 0) c
+
+-- what partition m costs at the offset with the number t
+abbrev pub trialCost : Case → ℕ → Bool → ℕ → ℕ
+trialCost C w m t =
+    sideCost (C .n * C .n) (C .original) w m (levelOf (C .table) (sideDepth (C .n) w (C .neighbours) m) (offset t))
+
+-- the number of its offset: the first of least cost
+abbrev pub bestTrial : Case → ℕ → Bool → ℕ
+bestTrial C w m = leastTo (trialCost C w m) (2 * C .reach)
+
+-- the least cost of a pattern
+unfoldable pub bestCost : Case → ℕ → ℕ
+bestCost C w = trialCost C w false (bestTrial C w false) + trialCost C w true (bestTrial C w true)
+
+-- whether texture is lent
+abbrev pub textured : Case → Bool
+textured C = ltb 0 (length (C .texture))
+
+-- the patterns in order: the entries below the count, and past them the contour, which has the number of the count
+abbrev pub patternAt : Case → ℕ → ℕ
+patternAt C p = cond (ltb p (C .count)) (getD (C .list) p 0) (contourOf (C .n) (C .texture))
+
+abbrev pub lastPattern : Case → ℕ
+lastPattern C = cond (textured C) (C .count) (C .count - 1)
+
+-- the number of the first pattern of least cost
+unfoldable pub bestPattern : Case → ℕ
+bestPattern C = leastTo (λ p. bestCost C (patternAt C p)) (lastPattern C)
+
+-- the record of the pattern p and of two offsets, by their numbers
+abbrev pub recordBy : ℕ → ℕ → ℕ → ℕ → Record
+recordBy count p t0 t1 =
+    record { kind = cond (ltb p count) 0 1; entry = cond (ltb p count) p 0; off0 = offset t0; off1 = offset t1 }
+
+-- the record of pattern p with the best offsets
+abbrev pub recordAt : Case → ℕ → Record
+recordAt C p = recordBy (C .count) p (bestTrial C (patternAt C p) false) (bestTrial C (patternAt C p) true)
+
+-- the chosen record and its cost
+unfoldable pub chosen : Case → Record × ℕ
+chosen C = (recordAt C (bestPattern C), bestCost C (patternAt C (bestPattern C)))

@@ -1,0 +1,128 @@
+// The pattern of least cost with its best offsets.
+ghost use mathlib.Core.Path.{_≡_};
+ghost use mathlib.Core.Bool.{cond};
+ghost use mathlib.Core.Logic.{_⊎_};
+ghost use Prim.Native.Nat.{ℕ, _+_, _-_, _*_, _<_, _≤_};
+ghost use lib.Dec.{ltb};
+ghost use lib.ListN.{length, getD};
+ghost use Rattle.pattern.specs.Answer.{samplesRefusal};
+ghost use Rattle.pattern.specs.Contour.{contourOf};
+ghost use Rattle.choice.specs.Record.{caseOf};
+ghost use Rattle.choice.specs.Answer.{chooseRefusal};
+ghost use Rattle.choice.specs.Tally.{blockCase, Weighable, SidesOf, PickedOf};
+use crate::partition::best_offset;
+use pattern::Contoured;
+
+// The numbers of the best offsets of both partitions of a pattern, and what it costs there.
+struct Sides {
+    trial0: usize,
+    trial1: usize,
+    cost: u32,
+}
+
+fn best_sides(
+    n: usize,
+    word: u64,
+    border: &[u8],
+    original: &[u8],
+    table: &[u8],
+    reach: usize,
+) -> Sides
+    requires { ⌜ Weighable n word (now border) (now original) (now table) reach ⌝ }
+    ensures { λ r. ⌜ SidesOf (blockCase n (now (border .entry)) (now (original .entry)) (now (table .entry)) reach) word (r .trial0) (r .trial1) (r .cost) ⌝ }
+{
+    let unmarked = best_offset(n, word, false, border, original, table, reach);
+    let marked = best_offset(n, word, true, border, original, table, reach);
+    Sides {
+        trial0: unmarked.number,
+        trial1: marked.number,
+        cost: unmarked.cost + marked.cost,
+    }
+}
+
+// The contour of the texture; 0 where there is none.
+fn contour_or_none(n: usize, texture: &[u8]) -> u64
+    requires { ⌜ (length (now texture) ≡ 0) ⊎ (samplesRefusal n (length (now texture)) ≡ 0) ⌝ }
+    ensures { λ r. ⌜ r ≡ contourOf n (now (texture .entry)) ⌝ }
+{
+    match pattern::contour(n, texture) {
+        Contoured::Word(w) => w,
+        Contoured::Refused(_) => 0,
+    }
+}
+
+// The pattern with the number p: the entry p, and past the count the contour.
+fn pattern_at(list: &[u64], count: usize, contour: u64, p: usize) -> u64
+    requires { ⌜ count ≤ length (now list) ⌝ }
+    ensures { λ r. ⌜ r ≡ cond (ltb p count) (getD (now (list .entry)) p 0) contour ⌝ }
+{
+    if p < count { list[p] } else { contour }
+}
+
+// The number of the last pattern: the contour's where texture is lent, else the last entry's.
+fn last_pattern(count: usize, texture: usize) -> usize
+    ensures { λ r. ⌜ r ≡ cond (ltb 0 texture) count (count - 1) ⌝ }
+{
+    if 0 < texture {
+        return count;
+    }
+    if 0 < count {
+        return count - 1;
+    }
+    0
+}
+
+// The number of the chosen pattern, those of its offsets, and its cost.
+pub(crate) struct Picked {
+    pub number: usize,
+    pub trial0: usize,
+    pub trial1: usize,
+    pub cost: u32,
+}
+
+// The first pattern of least cost.
+pub(crate) fn best_pattern(
+    n: usize,
+    list: &[u64],
+    count: usize,
+    border: &[u8],
+    original: &[u8],
+    table: &[u8],
+    reach: usize,
+    texture: &[u8],
+) -> Picked
+    requires { ⌜ chooseRefusal (caseOf n (now list) count (now border) (now original) (now table) reach (now texture)) ≡ 0 ⌝ }
+    ensures { λ r. ⌜ PickedOf (caseOf n (now (list .entry)) count (now (border .entry)) (now (original .entry)) (now (table .entry)) reach (now (texture .entry))) (r .number) (r .trial0) (r .trial1) (r .cost) ⌝ }
+{
+    let contour = contour_or_none(n, texture);
+    let end = last_pattern(count, texture.len()) + 1;
+    let mut at: usize = 0;
+    let mut best = best_sides(
+        n,
+        pattern_at(list, count, contour, 0),
+        border,
+        original,
+        table,
+        reach,
+    );
+    for p in 1..end {
+        let next = best_sides(
+            n,
+            pattern_at(list, count, contour, p),
+            border,
+            original,
+            table,
+            reach,
+        );
+        if next.cost < best.cost {
+            at = p;
+            best = next;
+        }
+    }
+    Picked {
+        number: at,
+        trial0: best.trial0,
+        trial1: best.trial1,
+        cost: best.cost,
+    }
+}
