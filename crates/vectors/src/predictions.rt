@@ -74,7 +74,7 @@ fn lines(n: usize, list: &[u64], step: usize, border: &[u8], depths: &[u8])
 
 // The words chosen for their corners, and every sixtieth of the list.
 fn each_word(n: usize, border: &[u8]) {
-    let counting = tables::counting();
+    let counting = tables::values(7);
     let depths = parts::first(&counting, 256);
     let mut list = [0u64; 756];
     let count = lists::build(n, &mut list);
