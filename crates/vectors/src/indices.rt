@@ -28,6 +28,6 @@ pub(crate) fn print() {
     line(&[100, 140]);
     line(&[0, 255]);
     line(&[100, 128, 140]);
-    let counting = tables::counting();
+    let counting = tables::values(7);
     line(parts::first(&counting, 256));
 }

@@ -1,5 +1,6 @@
 // Section `wedgelets`: the wedgelet lists.
 use crate::output;
+use crate::parts;
 use pattern::Listed;
 
 // Builds the list, and answers its count; 0 where it is refused.
@@ -11,13 +12,11 @@ pub(crate) fn build(n: usize, list: &mut [u64]) -> usize {
     }
 }
 
-// A line for each of the first `count` words.
-fn words(list: &[u64], count: usize) {
-    for k in 0..count {
-        if k < list.len() {
-            output::digits(list[k]);
-            output::end();
-        }
+// A line for each word.
+fn words(list: &[u64]) {
+    for k in 0..list.len() {
+        output::digits(list[k]);
+        output::end();
     }
 }
 
@@ -28,7 +27,7 @@ fn lines(n: usize) {
     output::number(n);
     output::number(count);
     output::end();
-    words(&list, count);
+    words(parts::words(&list, count));
 }
 
 pub(crate) fn print() {

@@ -1,5 +1,6 @@
 // Prints the vectors that outside/README.md describes, section by section, from the answers of the public calls.
 mod blocks;
+mod choices;
 mod contours;
 mod indices;
 mod lists;
@@ -23,4 +24,5 @@ fn main() {
     pattern_refusals::print();
     sides::print();
     predictions::print();
+    choices::print();
 }

@@ -25,7 +25,15 @@ pub(crate) fn first_mut(s: &mut [u8], k: usize) -> &mut [u8] {
 }
 
 // The first k words, or all of them where there are fewer.
-pub(crate) fn first_words(s: &mut [u64], k: usize) -> &mut [u64] {
+pub(crate) fn words(s: &[u64], k: usize) -> &[u64] {
+    if k < s.len() {
+        return &s[0..k];
+    }
+    s
+}
+
+// The same of a slice that is written to.
+pub(crate) fn words_mut(s: &mut [u64], k: usize) -> &mut [u64] {
     if k < s.len() {
         return &mut s[0..k];
     }

@@ -15,7 +15,7 @@ fn list_refusal(n: usize, list: &mut [u64]) -> u8 {
 
 fn list_line(n: usize, length: usize) {
     let mut list = [0u64; 756];
-    let refusal = list_refusal(n, parts::first_words(&mut list, length));
+    let refusal = list_refusal(n, parts::words_mut(&mut list, length));
     output::text(b"refusal wedgelets");
     output::number(n);
     output::number(length);
@@ -50,14 +50,19 @@ fn agreed(a: u8, b: u8, c: u8) -> u8 {
 }
 
 // The refusal of a texture, which a block of as many samples has too.
+fn samples_refusal(n: usize, samples: &mut [u8]) -> u8 {
+    let contour = contour_refusal(n, samples);
+    let length = pattern::samples_refusal(n, samples.len());
+    agreed(contour, length, block_refusal(n, samples))
+}
+
 fn samples_line(n: usize, length: usize) {
     let mut samples = [0u8; 256];
-    let contour = contour_refusal(n, parts::first(&samples, length));
-    let block = block_refusal(n, parts::first_mut(&mut samples, length));
+    let refusal = samples_refusal(n, parts::first_mut(&mut samples, length));
     output::text(b"refusal contour");
     output::number(n);
     output::number(length);
-    output::small(agreed(contour, block, pattern::samples_refusal(n, length)));
+    output::small(refusal);
     output::end();
 }
 

@@ -1,5 +1,6 @@
 // Section `predictions`: predicted blocks of words, tables and offsets, and refusals.
 ghost use Prim.Native.Nat.{_≤_};
+use crate::lists;
 use crate::output;
 use crate::parts;
 use crate::samples::Source;
@@ -60,59 +61,62 @@ fn each_table(n: usize, word: u64, border: &[u8], depths: &[u8]) {
     pairs(n, word, border, depths);
 }
 
-// The lines of the first `count` words.
-fn lines(n: usize, list: &[u64; 128], count: usize, border: &[u8], depths: &[u8])
-    requires { ⌜ count ≤ 128 ⌝ }
+// The lines of the words 0, step, 2 * step and so on.
+fn lines(n: usize, list: &[u64], step: usize, border: &[u8], depths: &[u8])
+    requires { ⌜ 1 ≤ step ⌝ }
 {
-    for k in 0..count {
-        each_table(n, list[k], border, depths);
+    for k in 0..list.len() {
+        if k % step == 0 {
+            each_table(n, list[k], border, depths);
+        }
     }
 }
 
-fn size(n: usize)
-    requires { ⌜ (1 ≤ n) × (n ≤ 8) ⌝ }
-{
-    let chosen = words::words_of(n, 60);
-    let list = chosen.words;
-    let border = samples(Source::Bytes, n, (900 + n) as u64);
-    let counting = tables::counting();
-    lines(
-        n,
-        &list,
-        chosen.count,
-        parts::first(&border, 4 * n),
-        parts::first(&counting, 256),
-    );
+// The words chosen for their corners, and every sixtieth of the list.
+fn each_word(n: usize, border: &[u8]) {
+    let counting = tables::values(7);
+    let depths = parts::first(&counting, 256);
+    let mut list = [0u64; 756];
+    let count = lists::build(n, &mut list);
+    lines(n, &words::corners(n), 1, border, depths);
+    lines(n, parts::words(&list, count), 60, border, depths);
 }
 
-// Each line takes one fault away from the line before it.
-fn refusals(n: usize, border: &[u8])
+// Each line takes one fault away from the line before it; `fives` is the table [5, 5].
+fn refusals(n: usize, border: &[u8], fives: &[u8])
     requires { ⌜ (1 ≤ n) × (n ≤ 8) ⌝ }
 {
     let area = parts::area(n);
     let short = parts::first(border, 4 * n - 1);
-    let none = parts::first(border, 0);
+    let none = parts::first(fives, 0);
+    let five = parts::first(fives, 1);
     line(n + 1, 0x10000, short, none, 256, 0, area - 1);
     line(n, 0x10000, short, none, 256, 0, area - 1);
     line(n, 0x10000, border, none, 256, 0, area - 1);
     line(n, 0x10000, border, none, 256, 0, area);
-    line(n, 0x10000, border, &[5, 5], 256, 0, area);
-    line(n, 0x10000, border, &[5], 256, 0, area);
-    line(n, 0x10, border, &[5], 256, 0, area);
-    line(n, 0x10, border, &[5], 0, -256, area);
-    line(n, 0x10000, border, &[5], 0, 0, area);
+    line(n, 0x10000, border, fives, 256, 0, area);
+    line(n, 0x10000, border, five, 256, 0, area);
+    line(n, 0x10, border, five, 256, 0, area);
+    line(n, 0x10, border, five, 0, -256, area);
+    line(n, 0x10000, border, five, 0, 0, area);
 }
 
-fn refused_size(n: usize)
+// The lines of a size, or its refusals.
+fn size(n: usize, refused: bool)
     requires { ⌜ (1 ≤ n) × (n ≤ 8) ⌝ }
 {
-    let border = samples(Source::Bytes, n, (900 + n) as u64);
-    refusals(n, parts::first(&border, 4 * n));
+    let bytes = samples(Source::Bytes, n, (900 + n) as u64);
+    let border = parts::first(&bytes, 4 * n);
+    if refused {
+        refusals(n, border, &[5, 5]);
+    } else {
+        each_word(n, border);
+    }
 }
 
 pub(crate) fn print() {
-    size(4);
-    size(8);
-    refused_size(4);
-    refused_size(8);
+    size(4, false);
+    size(8, false);
+    size(4, true);
+    size(8, true);
 }

@@ -22,7 +22,7 @@ fn line(case: usize, table: &[u8]) {
 }
 
 pub(crate) fn print() {
-    let counting = tables::counting();
+    let counting = tables::values(7);
     line(0, parts::first(&counting, 0));
     line(1, &counting);
     line(2, &[5, 5]);

@@ -1,10 +1,39 @@
-// Depth tables of the vectors.
+// Depth tables of the vectors, by the numbers of section `choices`.
 
-// The 257 bytes i % 256; the first 256 are the table of all depths.
-pub(crate) fn counting() -> [u8; 257] {
+const THREE: [u8; 3] = [100, 128, 140];
+
+const SIX: [u8; 6] = [0, 50, 100, 128, 156, 200];
+
+// Value i of a table.
+fn value(table: usize, i: usize) -> u8 {
+    match table {
+        0 => 128,
+        1 => 77,
+        2 => THREE[i % 3],
+        4 => SIX[i % 6],
+        6 => 5,
+        _ => (i % 256) as u8,
+    }
+}
+
+// The number of values of a table.
+pub(crate) fn count(table: usize) -> usize {
+    match table {
+        0 | 1 => 1,
+        2 => 3,
+        3 => 256,
+        4 => 6,
+        5 => 0,
+        6 => 2,
+        _ => 257,
+    }
+}
+
+// The values of a table from the start of an array.
+pub(crate) fn values(table: usize) -> [u8; 257] {
     let mut out = [0u8; 257];
     for i in 0..257 {
-        out[i] = (i % 256) as u8;
+        out[i] = value(table, i);
     }
     out
 }

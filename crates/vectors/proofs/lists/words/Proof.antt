@@ -5,10 +5,10 @@ use Rattle.vectors.proofs.lists.words.Statement.{statement}
 use Rattle.vectors.proofs.lists.words.Tie as tie
 
 abbrev Inv-loop : tie.InvT-loop
-Inv-loop list count k₀ k = k ≤ count
+Inv-loop list k₀ k-end k = k ≤ k-end
 
 abbrev μ-loop : tie.MeasureT-loop
-μ-loop list count k₀ k = count - k
+μ-loop list k₀ k-end k = k-end - k
 
 loop-holds : tie.Need-loop-holds Inv-loop μ-loop
 loop-holds c = search needs

@@ -5,19 +5,22 @@ use Rattle.vectors.proofs.predictions.lines.Statement.{statement}
 use Rattle.vectors.proofs.predictions.lines.Tie as tie
 
 abbrev Inv-loop : tie.InvT-loop
-Inv-loop n list count border depths k₀ k = k ≤ count
+Inv-loop n list step border depths k₀ k-end k = k ≤ k-end
 
 abbrev μ-loop : tie.MeasureT-loop
-μ-loop n list count border depths k₀ k = count - k
+μ-loop n list step border depths k₀ k-end k = k-end - k
 
 loop-holds : tie.Need-loop-holds Inv-loop μ-loop
 loop-holds c = search needs
 
+rem-if1 : tie.Need-rem-if1 Inv-loop μ-loop
+rem-if1 c = search needs
+
 mul-each-table : tie.Need-mul-each-table Inv-loop μ-loop
 mul-each-table c = search needs
 
-element-copy-out-each-table : tie.Need-element-copy-out-each-table Inv-loop μ-loop
-element-copy-out-each-table c = search needs
+shared-slice-read-each-table : tie.Need-shared-slice-read-each-table Inv-loop μ-loop
+shared-slice-read-each-table c = search needs
 
 each-table-requires : tie.Need-each-table-requires Inv-loop μ-loop
 each-table-requires c κs = search needs
@@ -41,8 +44,9 @@ lines-spec =
     Inv-loop
     μ-loop
     loop-holds
+    rem-if1
     mul-each-table
-    element-copy-out-each-table
+    shared-slice-read-each-table
     each-table-requires
     add-k
     loop-less

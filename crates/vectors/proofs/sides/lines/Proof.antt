@@ -5,19 +5,22 @@ use Rattle.vectors.proofs.sides.lines.Statement.{statement}
 use Rattle.vectors.proofs.sides.lines.Tie as tie
 
 abbrev Inv-loop : tie.InvT-loop
-Inv-loop n list count border k₀ k = k ≤ count
+Inv-loop n list step border k₀ k-end k = k ≤ k-end
 
 abbrev μ-loop : tie.MeasureT-loop
-μ-loop n list count border k₀ k = count - k
+μ-loop n list step border k₀ k-end k = k-end - k
 
 loop-holds : tie.Need-loop-holds Inv-loop μ-loop
 loop-holds c = search needs
 
+rem-if1 : tie.Need-rem-if1 Inv-loop μ-loop
+rem-if1 c = search needs
+
 mul-line : tie.Need-mul-line Inv-loop μ-loop
 mul-line c = search needs
 
-element-copy-out-line : tie.Need-element-copy-out-line Inv-loop μ-loop
-element-copy-out-line c = search needs
+shared-slice-read-line : tie.Need-shared-slice-read-line Inv-loop μ-loop
+shared-slice-read-line c = search needs
 
 line-requires : tie.Need-line-requires Inv-loop μ-loop
 line-requires c κs = search needs
@@ -41,8 +44,9 @@ lines-spec =
     Inv-loop
     μ-loop
     loop-holds
+    rem-if1
     mul-line
-    element-copy-out-line
+    shared-slice-read-line
     line-requires
     add-k
     loop-less

@@ -1,20 +1,20 @@
--- `counting` is safe and ends: the measure is the number of bytes that are left.
+-- `values` is safe and ends: the measure is the number of values that are left.
 use Prim.Native.Nat.{_≤_, _-_}
 use borrow.Author.Needs.{needs}
-use Rattle.vectors.proofs.tables.counting.Statement.{statement}
-use Rattle.vectors.proofs.tables.counting.Tie as tie
+use Rattle.vectors.proofs.tables.values.Statement.{statement}
+use Rattle.vectors.proofs.tables.values.Tie as tie
 
 abbrev Inv-loop : tie.InvT-loop
-Inv-loop out₀ i₀ out i = i ≤ 257
+Inv-loop table out₀ i₀ out i = i ≤ 257
 
 abbrev μ-loop : tie.MeasureT-loop
-μ-loop out₀ i₀ out i = 257 - i
+μ-loop table out₀ i₀ out i = 257 - i
 
 loop-holds : tie.Need-loop-holds Inv-loop μ-loop
 loop-holds c = search needs
 
-cast-out : tie.Need-cast-out Inv-loop μ-loop
-cast-out c = search needs
+value-requires : tie.Need-value-requires Inv-loop μ-loop
+value-requires c κs = search needs
 
 array-write-out : tie.Need-array-write-out Inv-loop μ-loop
 array-write-out c = search needs
@@ -31,14 +31,14 @@ loop-again c = search needs
 returns : tie.Need-returns Inv-loop μ-loop
 returns c = search needs
 
-pub counting-spec : {M : Type 1} → statement M
-counting-spec =
+pub values-spec : {M : Type 1} → statement M
+values-spec =
     tie.close
     (tie.spec
     Inv-loop
     μ-loop
     loop-holds
-    cast-out
+    value-requires
     array-write-out
     add-i
     loop-less
