@@ -124,7 +124,7 @@ module _ (C : Case) where
 
 -- ---- there is only one
 
-same-record :
+pub same-record :
     (k e : ℕ) (a b : ℤ) {k′ e′ : ℕ} {a′ b′ : ℤ} → k ≡ k′ → e ≡ e′ → a ≡ a′ → b ≡ b′
     → _≡_ {A = Record} (record { kind = k; entry = e; off0 = a; off1 = b }) (record { kind = k′; entry = e′; off0 = a′; off1 = b′ })
 same-record k e a b p q r s = λ i. record { kind = p i; entry = q i; off0 = r i; off1 = s i }

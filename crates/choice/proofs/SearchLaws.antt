@@ -92,7 +92,8 @@ unfolding sidesRefusal
 sides-pass n w s ok long inside = rw (ok, eq-eqb (length s) (4 * n) long, inside)
 
 module _ (C : Case) (k : Accepted C) where
-  pattern-inside : (p : ℕ) → Dec (p < C .count) → wordOk (C .n) (patternAt C p) ≡ true
+  -- its marks are samples of the block
+  pub pattern-inside : (p : ℕ) → Dec (p < C .count) → wordOk (C .n) (patternAt C p) ≡ true
   pattern-inside p (yes l) = rw (lt-ltb p (C .count) l) (words-at (C .n) (C .list) (C .count) (k .words) p l)
   pattern-inside p (no l) = rw (le-ltb p (C .count) (omega arith)) (lt-ltb _ _ (contour-lt (C .n) (C .texture)))
 
