@@ -1,12 +1,12 @@
 -- The least-cost law: `chosen` is the record of least cost, and there is no other. Assumes nothing.
-use Prim.Native.Nat.{ℕ, zero, suc, _+_, _-_, _*_, _≤_, _<_}
-use mathlib.Core.Path.{_≡_, refl, sym, ap, ap₂, subst, _∙_}
+use Prim.Native.Nat.{ℕ, zero, suc, _+_, _*_, _≤_, _<_}
+use mathlib.Core.Path.{_≡_, refl, sym, ap, ap₂, _∙_}
 use mathlib.Core.Bool.{Bool, true, false}
 use mathlib.Core.Logic.{_⊎_, inl, inr, ⊎-elim}
 use native.Mathlib.Omega.{arith}
 use lib.IntN.{ℤ}
 use lib.ListN.{length}
-use Rattle.arith.specs.Checks.{Answer, refused, given, answer}
+use Rattle.arith.specs.Checks.{answer}
 use Rattle.arith.specs.Least.{First, leastTo}
 use Rattle.arith.proofs.LeastLaws.{leastTo-first}
 use Rattle.choice.specs.Offset.{InReach, trial, offset}

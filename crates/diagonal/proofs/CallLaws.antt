@@ -1,7 +1,7 @@
 -- What `contour` and `predict` answer for a record within the reach of an accepted case. Assumes nothing.
-use Prim.Native.Nat.{ℕ, zero, suc, _*_, _≤_, _<_}
-use mathlib.Core.Path.{_≡_, refl, sym, ap, _∙_}
-use mathlib.Core.Bool.{true, _&&_}
+use Prim.Native.Nat.{ℕ, _*_}
+use mathlib.Core.Path.{_≡_, sym, ap, _∙_}
+use mathlib.Core.Bool.{true}
 use mathlib.Core.List.{List}
 use mathlib.Core.Logic.{⊎-elim}
 use native.Mathlib.Decide.{decLt}
@@ -9,7 +9,7 @@ use native.Mathlib.Omega.{arith}
 use lib.IntN.{ℤ, natAbs}
 use lib.ListN.{length}
 use borrow.Author.Tests.{eq-eqb, le-leb}
-use Rattle.arith.specs.Checks.{given, answer, lent}
+use Rattle.arith.specs.Checks.{given}
 use Rattle.arith.proofs.CheckLaws.{answer-given, lent-given}
 use Rattle.pattern.specs.Size.{wordOk}
 use Rattle.pattern.specs.Answer.{samplesRefusal, contourAnswer}
@@ -28,10 +28,10 @@ module _ (C : Case) (k : Accepted C) (r : Record) (h : Within C r) where
   unfolding contourAnswer
   contour-answers e =
       let passes : samplesRefusal (C .n) (length (C .texture)) ≡ 0 =
-            ⊎-elim
-            (λ z. ⊎-elim (λ w. absurd (omega (arith, w .0))) (λ w. absurd (omega (arith, w .2))) (h .pattern-in))
-            (λ z. z)
-            (texture-judged (C .n) (length (C .texture)) (k .size) (k .lengths .optional)) in
+      ⊎-elim
+      (λ z. ⊎-elim (λ w. absurd (omega (arith, w .0))) (λ w. absurd (omega (arith, w .2))) (h .pattern-in))
+      (λ z. z)
+      (texture-judged (C .n) (length (C .texture)) (k .size) (k .lengths .optional)) in
       sym (answer-given (samplesRefusal (C .n) (length (C .texture))) (contourOf (C .n) (C .texture)) passes)
       ∙ ap (λ (j : ℕ). given (patternBy C j (r .entry))) (sym e)
 

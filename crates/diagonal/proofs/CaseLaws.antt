@@ -1,26 +1,22 @@
 -- The list as built, and the transposed case: it is accepted, and transposed twice it is the case again. Assumes nothing.
-use Prim.Native.Nat.{ℕ, zero, suc, _+_, _*_, _≤_, _<_}
+use Prim.Native.Nat.{ℕ, _*_, _≤_, _<_}
 use mathlib.Core.Path.{_≡_, refl, sym, ap, ap₂, _∙_}
-use mathlib.Core.Bool.{Bool, true, false}
 use mathlib.Core.List.{List, [], _∷_, _++_}
-use mathlib.Core.Logic.{_⊎_, inl, inr, ⊎-elim}
+use mathlib.Core.Logic.{_⊎_, ⊎-elim}
 use native.Mathlib.Nat.{mul-le-mul}
 use native.Mathlib.Omega.{arith}
-use lib.Dec.{ltb}
 use lib.ListN.{length, getD, take, drop}
 use lib.Seq.{getD-take, take-at}
-use Rattle.arith.specs.Checks.{given, answer, lent}
+use Rattle.arith.specs.Checks.{given}
 use Rattle.arith.specs.Square.{transposedList}
 use Rattle.arith.proofs.CheckLaws.{given-means, lent-given}
 use Rattle.arith.proofs.SquareLaws.{length-transposed, transposed-twice}
 use Rattle.pattern.specs.Wedgelet.{wedgeletList}
 use Rattle.pattern.specs.Answer.{listRefusal, listAnswer, listAfter}
-use Rattle.prediction.specs.Transposed.{transposedNeighbours, EndsDecide}
 use Rattle.prediction.proofs.TransposedLaws.{length-transposed-neighbours, neighbours-transposed-twice}
 use Rattle.choice.specs.Record.{Case, caseOf}
-use Rattle.choice.specs.Search.{textured}
 use Rattle.choice.specs.Answer.{chooseRefusal}
-use Rattle.choice.proofs.AcceptLaws.{Lengths, Accepted, accepted, accept}
+use Rattle.choice.proofs.AcceptLaws.{Accepted, accepted, accept}
 use Rattle.diagonal.specs.Law.{AsBuilt, transposedTexture, transposedCase}
 
 -- ---- the list as built

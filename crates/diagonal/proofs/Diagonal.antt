@@ -1,10 +1,10 @@
 -- The diagonal law. The transposed case costs no more, since the chosen record has a partner there; transposed again it is the first case,
 -- so that the first costs no more either. Assumes nothing.
-use Prim.Native.Nat.{ℕ, _≤_, _<_}
-use mathlib.Core.Path.{_≡_, refl, sym, ap, subst, _∙_}
+use Prim.Native.Nat.{ℕ, _≤_}
+use mathlib.Core.Path.{_≡_, sym, ap, subst, _∙_}
 use native.Mathlib.Nat.{le-antisymm}
 use native.Mathlib.Omega.{arith}
-use Rattle.arith.specs.Checks.{given, answer}
+use Rattle.arith.specs.Checks.{given}
 use Rattle.arith.proofs.CheckLaws.{answer-given}
 use Rattle.prediction.specs.Transposed.{EndsDecide}
 use Rattle.prediction.proofs.TransposedLaws.{ends-transposed}
@@ -15,7 +15,7 @@ use Rattle.choice.proofs.AcceptLaws.{Accepted, accepted}
 use Rattle.choice.proofs.LeastLaws.{chosen-least}
 use Rattle.diagonal.specs.Law.{AsBuilt, transposedCase, OnePartner, OneCost, DiagonalLaw}
 use Rattle.diagonal.proofs.CallLaws.{contour-answers, predict-writes}
-use Rattle.diagonal.proofs.CaseLaws.{wedgelets-build, transposed-accepted, case-twice, refusal-transposed}
+use Rattle.diagonal.proofs.CaseLaws.{wedgelets-build, case-twice, refusal-transposed}
 use Rattle.diagonal.proofs.PartnerLaws.{one-partner}
 
 -- what a case needs for its law

@@ -1,18 +1,15 @@
 -- Every record within the reach has exactly one partner, which predicts the transposed block at the same cost. Assumes nothing.
-use Prim.Native.Nat.{ℕ, zero, suc, _+_, _*_, _≤_, _<_}
+use Prim.Native.Nat.{ℕ, _*_, _<_}
 use mathlib.Core.Path.{_≡_, refl, sym, ap, ap₂, subst, _∙_}
 use mathlib.Core.List.{List}
-use mathlib.Core.Logic.{_⊎_, inl, inr, ⊎-elim}
+use mathlib.Core.Logic.{inl, inr, ⊎-elim}
 use native.Mathlib.Omega.{arith}
-use lib.IntN.{ℤ}
 use lib.ListN.{length, getD}
 use Rattle.arith.specs.Distance.{dist}
-use Rattle.arith.specs.Square.{across, transposedList}
-use Rattle.arith.specs.Sum.{sumTo}
+use Rattle.arith.specs.Square.{transposedList}
 use Rattle.arith.proofs.Sums.{sum-ext}
 use Rattle.arith.proofs.SquareLaws.{transposed-across, sum-across}
 use Rattle.pattern.specs.Contour.{contourOf}
-use Rattle.pattern.specs.Laws.{Once}
 use Rattle.pattern.specs.Pattern.{transposed}
 use Rattle.pattern.specs.Wedgelet.{wedgeletList}
 use Rattle.pattern.proofs.ContourLaws.{contour-transposed}
@@ -20,10 +17,10 @@ use Rattle.pattern.proofs.WedgeletLaws.{wedgeletList-turn-closed}
 use Rattle.prediction.specs.Transposed.{transposedNeighbours, EndsDecide}
 use Rattle.prediction.specs.Block.{predicted}
 use Rattle.prediction.proofs.TransposedLaws.{prediction-transposed}
-use Rattle.choice.specs.Record.{Case, Record, PatternIn, Within, patternBy, patternOf, predictionBy, predictionOf, difference, costOf}
+use Rattle.choice.specs.Record.{Case, Record, PatternIn, Within, patternBy, patternOf, predictionOf, difference, costOf}
 use Rattle.choice.proofs.AcceptLaws.{Accepted}
 use Rattle.choice.proofs.LeastLaws.{same-record}
-use Rattle.diagonal.specs.Law.{AsBuilt, transposedTexture, transposedCase, Partner, OnePartner}
+use Rattle.diagonal.specs.Law.{AsBuilt, transposedCase, Partner, OnePartner}
 use Rattle.diagonal.proofs.CaseLaws.{built-at, texture-length, texture-lent}
 
 -- ---- what a transposed prediction costs
