@@ -1,11 +1,10 @@
 -- What holds of a case that is not refused, and that such a case is not refused. Assumes nothing.
-use Prim.Native.Nat.{ℕ, zero, suc, _+_, _*_, _≤_, _<_}
-use mathlib.Core.Path.{_≡_, refl, sym, ap, ap₂, _∙_}
-use mathlib.Core.Bool.{Bool, true, false, _&&_, _||_}
+use Prim.Native.Nat.{ℕ, zero, suc, _*_, _≤_, _<_}
+use mathlib.Core.Path.{_≡_, refl, sym, ap₂, _∙_}
+use mathlib.Core.Bool.{Bool, true, false, _||_, or-true}
 use mathlib.Core.List.{List}
 use mathlib.Core.Logic.{_⊎_, inl, inr, ⊎-elim}
 use native.Mathlib.Omega.{arith}
-use native.Mathlib.Numerals.{add-one}
 use lib.Dec.{eqb, leb, ltb}
 use lib.ListN.{length, getD}
 use borrow.Author.Tests.{eq-eqb, eqb-true, le-leb, leb-true, lt-ltb, ltb-true}
@@ -46,6 +45,21 @@ module _ (n words count neighbours samples texture : ℕ) where
         inside = leb-true count words (d .0);
         few = leb-true count 9999 (d .1);
       }
+
+  either : (p q : ℕ) → (texture ≡ p) ⊎ (texture ≡ q) → eqb texture p || eqb texture q ≡ true
+  either p q =
+      ⊎-elim (λ e. rw (eq-eqb texture p e)) (λ e. rw (eq-eqb texture q e) (or-true (eqb texture p)))
+
+  pub lengths-do : Lengths n words count neighbours samples texture → lengthsOk n words count neighbours samples texture ≡ true
+  unfolding lengthsOk
+  lengths-do h =
+      rw (
+        eq-eqb neighbours (4 * n) (h .bordered),
+        eq-eqb samples (n * n) (h .square),
+        either 0 (n * n) (h .optional),
+        le-leb count words (h .inside),
+        le-leb count 9999 (h .few),
+      )
 
 -- ---- words
 
@@ -102,6 +116,22 @@ accepted C h =
       near = leb-true (C .reach) 255 (e .0);
       some = ⊎-elim (λ p. inl (ltb-true 0 (C .count) p)) (λ p. inr p) (either-of (ltb 0 (C .count)) (textured C) (f .0));
     }
+
+some-by : (C : Case) → (0 < C .count) ⊎ (textured C ≡ true) → ltb 0 (C .count) || textured C ≡ true
+some-by C = ⊎-elim (λ l. rw (lt-ltb 0 (C .count) l)) (λ e. rw e (or-true (ltb 0 (C .count))))
+
+-- such a case is not refused
+pub accept : (C : Case) → Accepted C → chooseRefusal C ≡ 0
+unfolding chooseRefusal
+accept C k =
+    rw (
+      k .size,
+      lengths-do (C .n) (length (C .list)) (C .count) (length (C .neighbours)) (length (C .original)) (length (C .texture)) (k .lengths),
+      k .sound,
+      k .words,
+      le-leb (C .reach) 255 (k .near),
+      some-by C (k .some),
+    )
 
 -- ---- the refusal as the code finds it
 

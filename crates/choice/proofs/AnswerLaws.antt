@@ -1,19 +1,18 @@
 -- The answer of a choice: the refusal, or the record that was picked, which is the one of least cost. Assumes nothing.
-use Prim.Native.Nat.{ℕ, zero, suc, _+_, _*_, _/_, _%_, _≤_, _<_}
-use mathlib.Core.Path.{_≡_, refl, sym, ap, ap₂, subst, _∙_}
+use Prim.Native.Nat.{ℕ, _*_, _/_, _%_, _≤_, _<_}
+use mathlib.Core.Path.{_≡_, sym, ap, ap₂, subst, _∙_}
 use mathlib.Core.Bool.{Bool, true, false, cond}
 use native.Mathlib.Omega.{arith}
 use lib.Dec.{eqb}
-use lib.IntN.{ℤ, pos, negsuc}
+use lib.IntN.{pos, negsuc}
 use mir.Syntax.{w32}
 use mir.Val.{SFits}
 use Rattle.arith.specs.Checks.{Answer, refused, given, answer}
-use Rattle.arith.specs.Least.{leastTo}
 use Rattle.arith.proofs.CheckLaws.{answer-refused, answer-given}
 use Rattle.arith.proofs.LeastLaws.{leastTo-first}
 use Rattle.choice.specs.Offset.{offset}
 use Rattle.choice.specs.Record.{Case, Record}
-use Rattle.choice.specs.Search.{trialCost, bestTrial, bestCost, patternAt, bestPattern, recordBy, recordAt, chosen}
+use Rattle.choice.specs.Search.{trialCost, bestTrial, bestCost, patternAt, recordBy, recordAt, chosen}
 use Rattle.choice.specs.Tally.{PickedOf}
 use Rattle.choice.specs.Answer.{chooseRefusal, chooseAnswer, LeastGiven}
 use Rattle.choice.proofs.LeastLaws.{answer-least}

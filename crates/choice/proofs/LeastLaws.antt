@@ -1,12 +1,12 @@
 -- The least-cost law: `chosen` is the record of least cost, and there is no other. Assumes nothing.
-use Prim.Native.Nat.{ℕ, zero, suc, _+_, _-_, _*_, _≤_, _<_}
-use mathlib.Core.Path.{_≡_, refl, sym, ap, ap₂, subst, _∙_}
+use Prim.Native.Nat.{ℕ, zero, suc, _+_, _*_, _≤_, _<_}
+use mathlib.Core.Path.{_≡_, refl, sym, ap, ap₂, _∙_}
 use mathlib.Core.Bool.{Bool, true, false}
 use mathlib.Core.Logic.{_⊎_, inl, inr, ⊎-elim}
 use native.Mathlib.Omega.{arith}
 use lib.IntN.{ℤ}
 use lib.ListN.{length}
-use Rattle.arith.specs.Checks.{Answer, refused, given, answer}
+use Rattle.arith.specs.Checks.{answer}
 use Rattle.arith.specs.Least.{First, leastTo}
 use Rattle.arith.proofs.LeastLaws.{leastTo-first}
 use Rattle.choice.specs.Offset.{InReach, trial, offset}
@@ -124,7 +124,7 @@ module _ (C : Case) where
 
 -- ---- there is only one
 
-same-record :
+pub same-record :
     (k e : ℕ) (a b : ℤ) {k′ e′ : ℕ} {a′ b′ : ℤ} → k ≡ k′ → e ≡ e′ → a ≡ a′ → b ≡ b′
     → _≡_ {A = Record} (record { kind = k; entry = e; off0 = a; off1 = b }) (record { kind = k′; entry = e′; off0 = a′; off1 = b′ })
 same-record k e a b p q r s = λ i. record { kind = p i; entry = q i; off0 = r i; off1 = s i }

@@ -1,14 +1,14 @@
 -- Patterns by number, the entries first and then the contour; and the least of a cost of two parts. Assumes nothing.
-use Prim.Native.Nat.{ℕ, zero, suc, _+_, _-_, _*_, _≤_, _<_}
-use mathlib.Core.Path.{_≡_, refl, sym, ap, _∙_}
+use Prim.Native.Nat.{ℕ, zero, suc, _+_, _-_, _≤_, _<_}
+use mathlib.Core.Path.{_≡_, refl, sym}
 use mathlib.Core.Bool.{Bool, true, false, cond}
 use mathlib.Core.Logic.{_⊎_, inl, inr, ⊎-elim}
 use native.Mathlib.Decide.{decLt}
 use native.Mathlib.Omega.{arith}
 use lib.Dec.{ltb}
-use lib.ListN.{length, getD}
-use borrow.Author.Tests.{lt-ltb, le-ltb, ltb-true, ltb-false}
-use Rattle.arith.specs.Least.{First, leastTo}
+use lib.ListN.{length}
+use borrow.Author.Tests.{lt-ltb, le-ltb, ltb-true}
+use Rattle.arith.specs.Least.{leastTo}
 use Rattle.arith.proofs.Bools.{clash}
 use Rattle.arith.proofs.LeastLaws.{leastTo-first}
 use Rattle.choice.specs.Record.{Case, PatternIn, patternBy}

@@ -1,18 +1,16 @@
 -- What the search over the patterns relies on and keeps: every pattern can be weighed, and the first of least cost so far is held with its
 -- offsets. Assumes nothing.
-use Prim.Native.Nat.{ℕ, zero, suc, _+_, _-_, _*_, _^_, _≤_, _<_, zero-le}
+use Prim.Native.Nat.{ℕ, _+_, _-_, _*_, _≤_, _<_, zero-le}
 use mathlib.Core.Path.{_≡_, refl, sym, ap, ap₂, subst, _∙_}
 use mathlib.Core.Bool.{Bool, true, false, cond}
 use mathlib.Core.List.{List, [], _∷_}
 use mathlib.Core.Logic.{_⊎_, inl, inr, ⊎-elim}
 use native.Mathlib.Decide.{decLt}
 use native.Mathlib.Omega.{arith}
-use lib.Dec.{eqb, ltb}
+use lib.Dec.{ltb}
 use lib.ListN.{length, getD}
 use borrow.Author.Tests.{eq-eqb, lt-ltb, le-ltb}
-use Rattle.arith.specs.Bits.{bits}
-use Rattle.arith.specs.Checks.{unless, Answer, refused, given, answer}
-use Rattle.arith.specs.Least.{leastTo}
+use Rattle.arith.specs.Checks.{Answer, refused, given}
 use Rattle.arith.proofs.BitLaws.{bits-ext, bits-none}
 use Rattle.arith.proofs.CheckLaws.{given-means, refused-means}
 use Rattle.arith.proofs.LeastLaws.{Kept, kept-one, kept-new, kept-old, kept-all}
@@ -21,8 +19,8 @@ use Rattle.pattern.specs.Answer.{samplesRefusal, contourAnswer}
 use Rattle.pattern.specs.Contour.{threshold, contourOf}
 use Rattle.pattern.proofs.ContourLaws.{contour-lt}
 use Rattle.prediction.specs.Answer.{sidesRefusal}
-use Rattle.choice.specs.Record.{Case, caseOf}
-use Rattle.choice.specs.Search.{trialCost, bestTrial, bestCost, patternAt, lastPattern, bestPattern}
+use Rattle.choice.specs.Record.{Case}
+use Rattle.choice.specs.Search.{trialCost, bestCost, patternAt, lastPattern, bestPattern}
 use Rattle.choice.specs.Tally.{TrialOf, blockCase, Weighable, SidesOf, PickedOf}
 use Rattle.choice.proofs.AcceptLaws.{Accepted, words-at}
 
@@ -92,7 +90,8 @@ unfolding sidesRefusal
 sides-pass n w s ok long inside = rw (ok, eq-eqb (length s) (4 * n) long, inside)
 
 module _ (C : Case) (k : Accepted C) where
-  pattern-inside : (p : ℕ) → Dec (p < C .count) → wordOk (C .n) (patternAt C p) ≡ true
+  -- its marks are samples of the block
+  pub pattern-inside : (p : ℕ) → Dec (p < C .count) → wordOk (C .n) (patternAt C p) ≡ true
   pattern-inside p (yes l) = rw (lt-ltb p (C .count) l) (words-at (C .n) (C .list) (C .count) (k .words) p l)
   pattern-inside p (no l) = rw (le-ltb p (C .count) (omega arith)) (lt-ltb _ _ (contour-lt (C .n) (C .texture)))
 

@@ -1,19 +1,18 @@
 -- The cost of a prediction splits by partition; what a partition costs is at most 255 a sample. Assumes nothing.
-use Prim.Native.Nat.{ℕ, zero, suc, _+_, _-_, _*_, _≤_, _<_}
-use mathlib.Core.Path.{_≡_, refl, sym, ap, ap₂, _∙_}
+use Prim.Native.Nat.{ℕ, _+_, _*_, _≤_, _<_}
+use mathlib.Core.Path.{_≡_, sym, ap, _∙_}
 use mathlib.Core.Bool.{Bool, true, false, cond, not}
 use mathlib.Core.List.{List}
 use native.Mathlib.Omega.{arith}
 use lib.IntN.{ℤ}
-use lib.ListN.{length, getD}
+use lib.ListN.{getD}
 use Rattle.arith.specs.Bits.{testBit}
 use Rattle.arith.specs.Distance.{dist}
-use Rattle.arith.specs.Sum.{sumTo}
 use Rattle.arith.proofs.Sums.{sum-ext, sum-add, sum-le}
 use Rattle.arith.proofs.ListLaws.{listOf-at}
 use Rattle.prediction.specs.Sides.{sideDepth}
 use Rattle.prediction.specs.Block.{levelOf, sampleOf, predicted}
-use Rattle.choice.specs.Offset.{trial, offset}
+use Rattle.choice.specs.Offset.{trial}
 use Rattle.choice.specs.Record.{Case, predictionBy, difference}
 use Rattle.choice.specs.Search.{belongs, sideCost, trialCost}
 use Rattle.choice.proofs.OffsetLaws.{offset-trial}

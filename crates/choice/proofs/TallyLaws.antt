@@ -1,14 +1,14 @@
 -- The counts of a partition's samples, its cost from one depth value to the next, and the steps of the loops that keep them: the cost at
 -- v + 1 and the number of samples are together the cost at v and twice the samples up to v. Assumes nothing.
-use Prim.Native.Nat.{ℕ, zero, suc, _+_, _-_, _*_, _≤_, _<_, zero-le}
-use mathlib.Core.Path.{_≡_, refl, sym, ap, ap₂, _∙_}
+use Prim.Native.Nat.{ℕ, _+_, _-_, _*_, _≤_, _<_, zero-le}
+use mathlib.Core.Path.{_≡_, refl, sym, ap, _∙_}
 use mathlib.Core.Bool.{Bool, true, false, cond, _&&_}
 use mathlib.Core.List.{List}
 use native.Mathlib.Decide.{ℕ-discrete}
 use native.Mathlib.Nat.{mul-one}
 use native.Mathlib.Omega.{arith}
 use lib.Dec.{eqb, ltb}
-use lib.ListN.{length, getD, set, replicate, length-set, getD-replicate}
+use lib.ListN.{getD, set, replicate, length-set, getD-replicate}
 use lib.Seq.{getD-set-same, getD-set-other}
 use borrow.Author.Tests.{eq-eqb, ne-eqb, eqb-true, eqb-false, ltb-true, ltb-false, le-ltb}
 use Rattle.arith.specs.Bits.{bit}
@@ -16,7 +16,7 @@ use Rattle.arith.specs.Distance.{dist}
 use Rattle.arith.specs.Sum.{sumTo}
 use Rattle.arith.proofs.Sums.{sum-more, sum-ext, sum-add, sum-le, sum-none}
 use Rattle.choice.specs.Search.{belongs, sideCost}
-use Rattle.choice.specs.Tally.{sideCount, sideSize, sideEqual, sideBelow, Tallied, Costs}
+use Rattle.choice.specs.Tally.{sideCount, sideSize, sideEqual, sideBelow, Tallied}
 use Rattle.choice.proofs.SideLaws.{sideCost-le}
 
 -- ---- one sample more

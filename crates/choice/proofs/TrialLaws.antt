@@ -1,13 +1,12 @@
 -- Offsets by number: the clamped index of each, and the loop that keeps the best. Assumes nothing.
 use Prim.Native.Nat.{ℕ, zero, suc, _+_, _-_, _*_, _≤_, _<_, min}
-use mathlib.Core.Path.{_≡_, refl, sym, ap, subst, _∙_}
-use mathlib.Core.Logic.{_⊎_, ⊎-elim}
+use mathlib.Core.Path.{_≡_, sym, ap, subst, _∙_}
+use mathlib.Core.Logic.{⊎-elim}
 use mathlib.Core.List.{List}
 use native.Mathlib.Omega.{arith}
 use lib.ListN.{length, getD}
-use lib.IntN.{ℤ, pos, negsuc}
 use Rattle.arith.specs.Distance.{clamped}
-use Rattle.arith.specs.Least.{First, leastTo}
+use Rattle.arith.specs.Least.{First}
 use Rattle.arith.proofs.LeastLaws.{Kept, kept-new, kept-old, kept-all, leastTo-first, first-leastTo, first-same}
 use Rattle.choice.specs.Offset.{offset}
 use Rattle.choice.specs.Tally.{Better, TrialOf}

@@ -4,3 +4,4 @@ pub mod Record
 pub mod Search
 pub mod Tally
 pub mod Answer
+pub mod Examples

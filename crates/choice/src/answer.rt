@@ -1,6 +1,6 @@
 // The answer of a choice.
 ghost use mathlib.Core.Path.{_≡_};
-ghost use Prim.Native.Nat.{ℕ, _<_, _≤_};
+ghost use Prim.Native.Nat.{_<_, _≤_};
 ghost use Rattle.choice.specs.Offset.{offset};
 ghost use Rattle.choice.specs.Record.{caseOf};
 ghost use Rattle.choice.specs.Search.{recordBy};

@@ -1,7 +1,7 @@
 // What one partition of a pattern costs, at every depth value and at the best offset.
 ghost use mathlib.Core.Path.{_≡_};
 ghost use mathlib.Core.Bool.{cond};
-ghost use Prim.Native.Nat.{ℕ, _+_, _-_, _*_, _<_, _≤_};
+ghost use Prim.Native.Nat.{_+_, _-_, _*_, _<_, _≤_};
 ghost use lib.ListN.{length, getD};
 ghost use Rattle.arith.specs.Distance.{clamped};
 ghost use Rattle.choice.specs.Offset.{offset};

@@ -1,6 +1,5 @@
 -- `choose` meets its contract: the refusal, or what was picked; and an answer that is the definition's is least. Assumes nothing.
-use Prim.Native.Nat.{ℕ}
-use mathlib.Core.Path.{_≡_, sym, subst, _∙_}
+use mathlib.Core.Path.{_≡_, sym, _∙_}
 use Rattle.choice.specs.Record.{Case, caseOf}
 use Rattle.choice.specs.Answer.{chooseRefusal}
 use Rattle.choice.specs.Tally.{PickedOf}

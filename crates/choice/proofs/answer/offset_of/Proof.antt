@@ -1,12 +1,11 @@
 -- `offset_of` meets its contract: half of an even number, and one less than minus half of an odd one. Assumes nothing.
-use Prim.Native.Nat.{ℕ, zero, suc, _/_, _<_}
+use Prim.Native.Nat.{ℕ, zero, suc, _/_}
 use mathlib.Core.Path.{_≡_, refl, ap}
 use native.Mathlib.Omega.{arith}
 use native.Mathlib.Nat.{zero-add}
 use borrow.Author.Tests.{eq-eqb, ne-eqb}
 use lib.IntN.{pos, negsuc, _-ℤ_}
 use mir.Syntax.{w32}
-use mir.Val.{SFits}
 use mir.Facts.{toZ-pos, toZ-ofZ}
 use borrow.Author.Needs.{needs}
 use Rattle.choice.proofs.answer.offset_of.Statement.{statement}

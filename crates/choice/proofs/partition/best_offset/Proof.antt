@@ -1,5 +1,4 @@
 -- `best_offset` meets its contract: the costs by value, read at the clamped index, are those at the offsets. Assumes nothing.
-use Prim.Native.Nat.{_≤_}
 use native.Mathlib.Omega.{arith}
 use Rattle.choice.proofs.WeighLaws.{few-samples, index-in, trial-weighed}
 use borrow.Author.Needs.{needs}

@@ -1,6 +1,4 @@
 -- `moved` meets its contract: each return is the clamped index. Assumes nothing.
-use Prim.Native.Nat.{_-_, _≤_, _<_}
-use mathlib.Core.Path.{_≡_}
 use native.Mathlib.Omega.{arith}
 use Rattle.choice.proofs.TrialLaws.{clamped-up, clamped-down}
 use borrow.Author.Needs.{needs}

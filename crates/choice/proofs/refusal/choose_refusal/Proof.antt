@@ -1,6 +1,5 @@
 -- `choose_refusal` meets its contract: each return is the first check that failed, or 0. Assumes nothing.
-use mathlib.Core.Path.{_≡_, sym, _∙_}
-use native.Mathlib.Omega.{arith}
+use mathlib.Core.Path.{sym, _∙_}
 use borrow.Author.Tests.{not-true, not-false}
 use Rattle.pattern.proofs.SizeLaws.{size-bounds}
 use Rattle.choice.specs.Record.{Case, caseOf}

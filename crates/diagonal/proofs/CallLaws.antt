@@ -1,0 +1,67 @@
+-- What `contour` and `predict` answer for a record within the reach of an accepted case. Assumes nothing.
+use Prim.Native.Nat.{ℕ, _*_}
+use mathlib.Core.Path.{_≡_, sym, ap, _∙_}
+use mathlib.Core.Bool.{true}
+use mathlib.Core.List.{List}
+use mathlib.Core.Logic.{⊎-elim}
+use native.Mathlib.Decide.{decLt}
+use native.Mathlib.Omega.{arith}
+use lib.IntN.{ℤ, natAbs}
+use lib.ListN.{length}
+use borrow.Author.Tests.{eq-eqb, le-leb}
+use Rattle.arith.specs.Checks.{given}
+use Rattle.arith.proofs.CheckLaws.{answer-given, lent-given}
+use Rattle.pattern.specs.Size.{wordOk}
+use Rattle.pattern.specs.Answer.{samplesRefusal, contourAnswer}
+use Rattle.pattern.specs.Contour.{contourOf}
+use Rattle.prediction.specs.Offset.{offsetOk}
+use Rattle.prediction.specs.Answer.{lengthsOk, predictRefusal, predictBlock}
+use Rattle.choice.specs.Offset.{InReach}
+use Rattle.choice.specs.Record.{Case, Record, Within, patternBy, patternOf, predictionOf}
+use Rattle.choice.proofs.AcceptLaws.{Accepted}
+use Rattle.choice.proofs.NumberLaws.{numberOf, number-pattern}
+use Rattle.choice.proofs.SearchLaws.{texture-judged, pattern-inside}
+
+module _ (C : Case) (k : Accepted C) (r : Record) (h : Within C r) where
+  -- kind 1 stands for the contour of the texture
+  pub contour-answers : r .kind ≡ 1 → contourAnswer (C .n) (C .texture) ≡ given (patternOf C r)
+  unfolding contourAnswer
+  contour-answers e =
+      let passes : samplesRefusal (C .n) (length (C .texture)) ≡ 0 =
+      ⊎-elim
+      (λ z. ⊎-elim (λ w. absurd (omega (arith, w .0))) (λ w. absurd (omega (arith, w .2))) (h .pattern-in))
+      (λ z. z)
+      (texture-judged (C .n) (length (C .texture)) (k .size) (k .lengths .optional)) in
+      sym (answer-given (samplesRefusal (C .n) (length (C .texture))) (contourOf (C .n) (C .texture)) passes)
+      ∙ ap (λ (j : ℕ). given (patternBy C j (r .entry))) (sym e)
+
+  inside : wordOk (C .n) (patternOf C r) ≡ true
+  inside =
+      let p = numberOf C (r .kind) (r .entry) in
+      ap (wordOk (C .n)) (sym (number-pattern C (r .kind) (r .entry) (h .pattern-in))) ∙ pattern-inside C k p (decLt p (C .count))
+
+  offset-ok : (off : ℤ) → InReach (C .reach) off → offsetOk off ≡ true
+  unfolding offsetOk
+  offset-ok off l = le-leb (natAbs off) 255 (omega (arith, k .near))
+
+  abbrev refusal : ℕ → ℕ
+  refusal samples = predictRefusal (C .n) (patternOf C r) (length (C .neighbours)) (C .table) (r .off0) (r .off1) samples
+
+  predict-passes : (samples : ℕ) → samples ≡ C .n * C .n → refusal samples ≡ 0
+  unfolding predictRefusal lengthsOk
+  predict-passes samples e =
+      rw (
+        k .size,
+        eq-eqb (length (C .neighbours)) (4 * C .n) (k .lengths .bordered),
+        eq-eqb samples (C .n * C .n) e,
+        k .sound,
+        inside,
+        offset-ok (r .off0) (h .off0-in),
+        offset-ok (r .off1) (h .off1-in),
+      )
+
+  pub predict-writes :
+      (block : List ℕ) → length block ≡ C .n * C .n
+      → predictBlock (C .n) (patternOf C r) (C .neighbours) (C .table) (r .off0) (r .off1) block ≡ predictionOf C r
+  unfolding predictBlock
+  predict-writes block e = sym (lent-given (refusal (length block)) (predictionOf C r) block (predict-passes (length block) e))

@@ -1,0 +1,2 @@
+-- Document 01, "Choice": demand 3.
+pub mod Law
