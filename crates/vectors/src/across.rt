@@ -130,7 +130,11 @@ fn turned_word(n: usize, word: u64) -> u64
 }
 
 fn same_offsets(a: Best, b: Best) -> bool {
-    if a.off0 == b.off0 { a.off1 == b.off1 } else { false }
+    if a.off0 == b.off0 {
+        a.off1 == b.off1
+    } else {
+        false
+    }
 }
 
 // Whether the record b, chosen for the transposed samples t, is the partner of a, chosen for the samples s.

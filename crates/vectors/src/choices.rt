@@ -75,19 +75,19 @@ const CASES: [u64; 60] = [
 ];
 
 // A case of size n, with the number from which its seeds are counted.
-struct Case {
-    n: usize,
-    seed: u64,
-    original: usize,
-    border: usize,
-    table: usize,
-    reach: u32,
-    texture: usize,
-    list: usize,
-    fault: usize,
+pub(crate) struct Case {
+    pub n: usize,
+    pub seed: u64,
+    pub original: usize,
+    pub border: usize,
+    pub table: usize,
+    pub reach: u32,
+    pub texture: usize,
+    pub list: usize,
+    pub fault: usize,
 }
 
-fn case_of(n: usize, number: usize) -> Case
+pub(crate) fn case_of(n: usize, number: usize) -> Case
     requires { ⌜ (1 ≤ n) × (n ≤ 8) × (number ≤ 59) ⌝ }
     ensures { λ r. ⌜ (1 ≤ r .n) × (r .n ≤ 8) × (r .seed ≤ 598) ⌝ }
 {
@@ -190,7 +190,7 @@ fn with_table(c: Case, border: &[u8], original: &[u8], table: &[u8], texture: &[
 }
 
 // The choice with the case's table.
-fn chosen(c: Case, border: &[u8], original: &[u8], texture: &[u8]) -> Choice
+pub(crate) fn chosen(c: Case, border: &[u8], original: &[u8], texture: &[u8]) -> Choice
     requires { ⌜ c .n ≤ 8 ⌝ }
 {
     let values = tables::values(c.table);

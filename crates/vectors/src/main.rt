@@ -1,4 +1,5 @@
 // Prints the vectors that outside/README.md describes, section by section, from the answers of the public calls.
+mod across;
 mod blocks;
 mod choices;
 mod contours;
@@ -25,4 +26,5 @@ fn main() {
     sides::print();
     predictions::print();
     choices::print();
+    across::print();
 }

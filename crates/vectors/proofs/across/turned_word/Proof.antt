@@ -6,6 +6,12 @@ use borrow.Author.Needs.{needs}
 use Rattle.vectors.proofs.across.turned_word.Statement.{statement}
 use Rattle.vectors.proofs.across.turned_word.Tie as tie
 
+-- the place across the diagonal is a small number
+small : (n k : ℕ) → 1 ≤ n → n ≤ 8 → (k % n * n ≤ 64) × (k / n ≤ k)
+small n k l h =
+    let m : k % n ≤ 8 = omega (arith, mod-lt k {m = n} l) in
+    (mul-le-mul {n₂ = 8} {m₂ = 8} m h, div-le-self k n)
+
 abbrev Inv-loop : tie.InvT-loop
 Inv-loop n word out₀ k₀ out k = k ≤ 64
 
@@ -22,13 +28,17 @@ rem-mark-at : tie.Need-rem-mark-at Inv-loop μ-loop
 rem-mark-at c = search needs
 
 mul-mark-at : tie.Need-mul-mark-at Inv-loop μ-loop
-mul-mark-at c = omega (arith, product c, quotient c)
+mul-mark-at c =
+    let s = c .before .before .before .before in
+    omega (arith, small (s .args .n) (c .before .before .before .loop .k) (s .pre .0) (s .pre .1))
 
 div-mark-at : tie.Need-div-mark-at Inv-loop μ-loop
 div-mark-at c = search needs
 
 add-mark-at : tie.Need-add-mark-at Inv-loop μ-loop
-add-mark-at c = omega (arith, product c, quotient c)
+add-mark-at c =
+    let s = c .before .before .before .before in
+    omega (arith, small (s .args .n) (c .before .before .before .loop .k) (s .pre .0) (s .pre .1))
 
 mark-at-requires : tie.Need-mark-at-requires Inv-loop μ-loop
 mark-at-requires c κs = search needs
