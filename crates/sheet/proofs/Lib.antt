@@ -1,0 +1,4 @@
+-- Laws of the definitions.
+pub mod GridLaws
+pub mod NeighbourLaws
+pub mod SampleLaws

@@ -1,0 +1,1 @@
+// A sheet of blocks (document 01, "Sheet").
