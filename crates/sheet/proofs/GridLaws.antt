@@ -1,6 +1,6 @@
 -- Laws of blocks and where they lie. Assumes nothing.
 use Prim.Native.Nat.{ℕ, zero, suc, _+_, _-_, _*_, _/_, _%_, _≤_, _<_}
-use native.Mathlib.Nat.{mul-le-mul, mul-le-mul-right, suc-mul, mod-lt, div-mul-le-self, div-le-self, div-lt-iff-lt-mul, le-div-iff-mul-le, mul-comm}
+use native.Mathlib.Nat.{mul-le-mul, mul-le-mul-right, suc-mul, mod-lt, div-mul-le-self, div-le-self, div-lt-iff-lt-mul, le-div-iff-mul-le, le-mul-of-pos-right, mul-comm}
 use native.Mathlib.Omega.{arith}
 use lib.Arith.{digits-lt}
 use Rattle.arith.specs.Square.{place}
@@ -35,3 +35,13 @@ place-in {n} {w} {samples} {x} {y} c r p hc hr =
 pub sample-in : {n w samples x y : ℕ} (i r : ℕ) → Inside n w samples x y → i < n → r < n → place w (x + i) (y + r) < samples
 sample-in {n} {w} {samples} {x} {y} i r p hi hr =
     place-in (x + i) (y + r) p (omega (arith, p .across)) (omega arith)
+
+-- the sheet has at least as many samples as the block's last row is far down
+pub rows-few : {n w samples x y : ℕ} → Inside n w samples x y → y + n ≤ samples
+rows-few {n} {w} {samples} {x} {y} p =
+    omega (arith, le-mul-of-pos-right {m = w} (y + n) (omega (arith, p .some, p .across)), p .down)
+
+-- and at least as many as the block
+pub block-few : {n w samples x y : ℕ} → Inside n w samples x y → n * n ≤ samples
+block-few {n} {w} {samples} {x} {y} p =
+    omega (arith, mul-le-mul {n₁ = n} {m₁ = n} {n₂ = y + n} {m₂ = w} (omega arith) (omega (arith, p .across)), p .down)

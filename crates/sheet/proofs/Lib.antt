@@ -1,4 +1,5 @@
 -- Laws of the definitions.
 pub mod GridLaws
+pub mod SourceLaws
 pub mod NeighbourLaws
 pub mod SampleLaws

@@ -22,13 +22,16 @@ readFrom s nowhere = 128
 abbrev pub run : ℕ → (ℕ → Source) → Source → ℕ → Source
 run count own other i = cond (ltb 0 count) (own (min i (count - 1))) other
 
--- The left run has n samples present where there is a block to the left: those below them are never placed before the block. The top
--- run has 2n where there is a row above, and n at the sheet's right edge. A run with none present takes the first of the other run.
+-- The left run has n samples present where there is a block to the left: the ones below them are never placed before the block.
 abbrev pub leftCount : ℕ → ℕ → ℕ
 leftCount n x = cond (ltb 0 x) n 0
 
+-- The top run has 2n present where there is a row above, and n at the sheet's right edge.
+abbrev pub aboveCount : ℕ → ℕ → ℕ → ℕ
+aboveCount n w x = cond (leb (x + 2 * n) w) (2 * n) n
+
 abbrev pub topCount : ℕ → ℕ → ℕ → ℕ → ℕ
-topCount n w x y = cond (ltb 0 y) (cond (leb (x + 2 * n) w) (2 * n) n) 0
+topCount n w x y = cond (ltb 0 y) (aboveCount n w x) 0
 
 -- the samples beside the block's rows and above its columns, of a block whose first sample is (x, y)
 abbrev pub leftOwn : ℕ → ℕ → ℕ → ℕ → Source
@@ -37,7 +40,7 @@ leftOwn w x y i = sample (place w (x - 1) (y + i))
 abbrev pub topOwn : ℕ → ℕ → ℕ → ℕ → Source
 topOwn w x y i = sample (place w (x + i) (y - 1))
 
--- L0 to L(2n-1) and T0 to T(2n-1)
+-- L0 to L(2n-1) and T0 to T(2n-1); a run with none present takes the first of the other run
 unfoldable pub leftSource : ℕ → ℕ → ℕ → ℕ → ℕ → Source
 leftSource n w x y i = run (leftCount n x) (leftOwn w x y) (run (topCount n w x y) (topOwn w x y) nowhere 0) i
 

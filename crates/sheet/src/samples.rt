@@ -1,0 +1,41 @@
+// One block of a sheet's samples: written, and cut out.
+ghost use mathlib.Core.Path.{_≡_};
+ghost use Prim.Native.Nat.{_+_, _*_, _/_, _%_, _<_, _≤_};
+ghost use lib.ListN.{length, getD};
+ghost use Rattle.arith.specs.Lists.{upto};
+ghost use Rattle.arith.specs.Square.{place};
+ghost use Rattle.sheet.specs.Grid.{Inside};
+ghost use Rattle.sheet.specs.Samples.{written};
+
+// The samples of the greatest block.
+pub(crate) const SAMPLES: usize = 64;
+
+// The sample in a column and a row of a sheet of the given width.
+pub(crate) fn read_at(samples: &[u8], width: usize, column: usize, row: usize) -> u8
+    requires { ⌜ place width column row < length (now samples) ⌝ }
+    ensures { λ r. ⌜ r ≡ getD (now (samples .entry)) (place width column row) 0 ⌝ }
+{
+    samples[row * width + column]
+}
+
+// Writes a block of n * n samples, row by row, at (x, y) of a sheet of the given width.
+pub(crate) fn write_at(samples: &mut [u8], width: usize, n: usize, x: usize, y: usize, block: &[u8])
+    requires { ⌜ (Inside n width (length (now samples)) x y) × (length (now block) ≡ n * n) ⌝ }
+    ensures { λ _. ⌜ now (samples .exit) ≡ written n width x y (now (block .entry)) (now (samples .entry)) ⌝ }
+{
+    for k in 0..n * n {
+        samples[(y + k / n) * width + (x + k % n)] = block[k];
+    }
+}
+
+// The block at (x, y) of a sheet of the given width: n * n samples, row by row, and 0 past them.
+pub(crate) fn cut_at(samples: &[u8], width: usize, n: usize, x: usize, y: usize) -> [u8; SAMPLES]
+    requires { ⌜ (Inside n width (length (now samples)) x y) × (n ≤ 8) ⌝ }
+    ensures { λ r. ⌜ r ≡ upto 64 (n * n) (λ k. getD (now (samples .entry)) (place width (x + k % n) (y + k / n)) 0) 0 ⌝ }
+{
+    let mut block = [0u8; SAMPLES];
+    for k in 0..n * n {
+        block[k] = read_at(samples, width, x + k % n, y + k / n);
+    }
+    block
+}
