@@ -2,4 +2,8 @@
 pub mod Grid
 pub mod Neighbours
 pub mod Samples
+pub mod State
+pub mod Meaning
+pub mod Place
+pub mod Told
 pub mod Examples

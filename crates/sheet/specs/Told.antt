@@ -1,0 +1,15 @@
+-- Document 01's number and values for each case of the code's answers. Assumes nothing.
+use Rattle.arith.specs.Checks.{Answer, refused, given}
+use Rattle.sheet.specs.declared.Sheet.{Sheet}
+use Rattle.sheet.specs.declared.Made.{Made}
+use Rattle.sheet.specs.declared.Made.the-variants as made
+use Rattle.sheet.specs.declared.Placed.{Placed}
+use Rattle.sheet.specs.declared.Placed.the-variants as placed
+
+abbrev pub newTold : Made → Answer Sheet
+newTold (made.New S) = given S
+newTold (made.Refused number) = refused number
+
+abbrev pub placeTold : Placed → Answer Sheet
+placeTold (placed.Next S) = given S
+placeTold (placed.Refused number) = refused number
