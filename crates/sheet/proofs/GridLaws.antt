@@ -1,5 +1,5 @@
 -- Laws of blocks and where they lie. Assumes nothing.
-use Prim.Native.Nat.{ℕ, zero, suc, _+_, _-_, _*_, _/_, _%_, _≤_, _<_}
+use Prim.Native.Nat.{ℕ, suc, _+_, _-_, _*_, _/_, _%_, _^_, _≤_, _<_}
 use native.Mathlib.Nat.{mul-le-mul, mul-le-mul-right, suc-mul, mod-lt, div-mul-le-self, div-le-self, div-lt-iff-lt-mul, le-div-iff-mul-le, le-mul-of-pos-right, mul-comm}
 use native.Mathlib.Omega.{arith}
 use lib.Arith.{digits-lt}
@@ -45,3 +45,14 @@ rows-few {n} {w} {samples} {x} {y} p =
 pub block-few : {n w samples x y : ℕ} → Inside n w samples x y → n * n ≤ samples
 block-few {n} {w} {samples} {x} {y} p =
     omega (arith, mul-le-mul {n₁ = n} {m₁ = n} {n₂ = y + n} {m₂ = w} (omega arith) (omega (arith, p .across)), p .down)
+
+-- ---- what 64 bits hold
+
+-- the product of two numbers of 32 bits
+pub area-fits : {a b : ℕ} → a < 2 ^ 32 → b < 2 ^ 32 → a * b < 2 ^ 64
+area-fits {a} {b} ha hb =
+    let l : a * b ≤ (2 ^ 32 - 1) * (2 ^ 32 - 1) = mul-le-mul {n₁ = a} {m₁ = b} {n₂ = 2 ^ 32 - 1} {m₂ = 2 ^ 32 - 1} (omega arith) (omega arith) in
+    omega arith
+
+pub blocks-fit : (n w h : ℕ) → w < 2 ^ 32 → h < 2 ^ 32 → blocks n w h < 2 ^ 64
+blocks-fit n w h hw hh = omega (arith, blocks-few n w h, area-fits hw hh)

@@ -1,6 +1,7 @@
 // A sheet of blocks (document 01, "Sheet").
 mod neighbours;
 mod samples;
+mod state;
 
 // The state of a sheet of width by height samples in blocks of n by n: how many of its blocks are placed.
 pub struct Sheet {
