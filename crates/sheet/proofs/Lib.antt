@@ -3,3 +3,5 @@ pub mod GridLaws
 pub mod SourceLaws
 pub mod NeighbourLaws
 pub mod SampleLaws
+pub mod PartLaws
+pub mod StateLaws

@@ -5,7 +5,7 @@ use mathlib.Core.List.{List, []}
 use lib.Dec.{ltb}
 use lib.ListN.{length}
 use Rattle.arith.specs.Checks.{Answer, answer, lent}
-use Rattle.choice.specs.Record.{Case, caseOf, Record, predictionOf}
+use Rattle.choice.specs.Record.{Case, caseOf, Record, patternBy, predictionOf}
 use Rattle.sheet.specs.Neighbours.{neighbours}
 use Rattle.sheet.specs.Samples.{written, cut}
 use Rattle.sheet.specs.State.{after, nextX, nextY, lengthsOk, openRefusal}
@@ -37,6 +37,10 @@ nextCase S M original reach s =
 
 abbrev pub placeCase : Sheet → Material → List ℕ → Case
 placeCase S M s = nextCase S M [] 0 s
+
+-- the pattern of a record for the next block
+abbrev pub nextWord : Sheet → List ℕ → List ℕ → ℕ → ℕ → ℕ
+nextWord S list texture kind entry = patternBy (placeCase S (materialOf list 0 [] texture) []) kind entry
 
 -- the samples with the record's predicted block in the next place
 unfoldable pub placedSamples : Sheet → Material → List ℕ → Record → List ℕ

@@ -1,12 +1,13 @@
 -- Document 01, "Sheet": the state of a sheet, and what every call on one checks of it. Assumes nothing.
-use Prim.Native.Nat.{ℕ, _+_, _*_}
-use mathlib.Core.Bool.{Bool, _&&_, _||_}
+use Prim.Native.Nat.{ℕ, _+_, _*_, _≤_, _<_}
+use mathlib.Core.Path.{_≡_}
+use mathlib.Core.Bool.{Bool, true, _&&_, _||_}
 use mathlib.Core.List.{List}
 use lib.Dec.{eqb, leb, ltb}
 use Rattle.arith.specs.Checks.{unless, Answer, answer}
 use Rattle.depth_table.specs.Table.{tableOk}
 use Rattle.pattern.specs.Size.{sizeOk}
-use Rattle.sheet.specs.Grid.{sideOk, blocks, blockX, blockY}
+use Rattle.sheet.specs.Grid.{longest, sideOk, blocks, blockX, blockY}
 use Rattle.sheet.specs.declared.Sheet.{Sheet}
 
 -- The state is n, width, height and the number of blocks placed.
@@ -67,3 +68,13 @@ stateRefusal S lengths rest =
 unfoldable pub openRefusal : Sheet → Bool → List ℕ → ℕ → ℕ
 openRefusal S lengths t rest =
     stateRefusal S lengths (unless (ltb (S .placed) (blocksOf S)) 20 (unless (tableOk t) 3 rest))
+
+-- what holds of a state that has a block to place
+pub record Open (S : Sheet) : Type 0 where
+  pub size : sizeOk (S .n) ≡ true
+  pub low : 4 ≤ S .n
+  pub high : S .n ≤ 8
+  pub wide : S .n ≤ S .width
+  pub narrow : S .width ≤ longest
+  pub short : S .height ≤ longest
+  pub missing : S .placed < blocksOf S

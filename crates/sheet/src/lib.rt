@@ -1,5 +1,6 @@
 // A sheet of blocks (document 01, "Sheet").
 mod neighbours;
+mod placing;
 mod samples;
 mod state;
 

@@ -1,10 +1,9 @@
 // The neighbours of a block, read from the sheet's samples.
 ghost use mathlib.Core.Path.{_≡_};
 ghost use Prim.Native.Nat.{_*_, _≤_, min};
-ghost use lib.ListN.{length};
-ghost use Rattle.arith.specs.Lists.{upto};
+ghost use lib.ListN.{length, take};
 ghost use Rattle.sheet.specs.Grid.{Inside};
-ghost use Rattle.sheet.specs.Neighbours.{readFrom, aboveCount, leftSource, topSource, sourceAt};
+ghost use Rattle.sheet.specs.Neighbours.{readFrom, aboveCount, leftSource, topSource, sourceAt, neighboursAt};
 use crate::samples::read_at;
 
 // The neighbours of the greatest block.
@@ -66,7 +65,7 @@ fn neighbour(samples: &[u8], width: usize, n: usize, x: usize, y: usize, i: usiz
     }
 }
 
-// The 4n neighbours of the block at (x, y), and 0 past them.
+// The 4n neighbours of the block at (x, y), and more past them.
 pub(crate) fn neighbours_at(
     samples: &[u8],
     width: usize,
@@ -75,7 +74,7 @@ pub(crate) fn neighbours_at(
     y: usize,
 ) -> [u8; NEIGHBOURS]
     requires { ⌜ (Inside n width (length (now samples)) x y) × (n ≤ 8) ⌝ }
-    ensures { λ r. ⌜ r ≡ upto 32 (4 * n) (λ i. readFrom (now (samples .entry)) (sourceAt n width x y i)) 0 ⌝ }
+    ensures { λ r. ⌜ take (4 * n) r ≡ neighboursAt n width x y (now (samples .entry)) ⌝ }
 {
     let mut near = [0u8; NEIGHBOURS];
     for i in 0..4 * n {

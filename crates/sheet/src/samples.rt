@@ -1,11 +1,10 @@
 // One block of a sheet's samples: written, and cut out.
 ghost use mathlib.Core.Path.{_≡_};
-ghost use Prim.Native.Nat.{_+_, _*_, _/_, _%_, _<_, _≤_};
-ghost use lib.ListN.{length, getD};
-ghost use Rattle.arith.specs.Lists.{upto};
+ghost use Prim.Native.Nat.{_*_, _<_, _≤_};
+ghost use lib.ListN.{length, getD, take};
 ghost use Rattle.arith.specs.Square.{place};
 ghost use Rattle.sheet.specs.Grid.{Inside};
-ghost use Rattle.sheet.specs.Samples.{written};
+ghost use Rattle.sheet.specs.Samples.{written, cut};
 
 // The samples of the greatest block.
 pub(crate) const SAMPLES: usize = 64;
@@ -28,10 +27,10 @@ pub(crate) fn write_at(samples: &mut [u8], width: usize, n: usize, x: usize, y: 
     }
 }
 
-// The block at (x, y) of a sheet of the given width: n * n samples, row by row, and 0 past them.
+// The block at (x, y) of a sheet of the given width: n * n samples, row by row, and more past them.
 pub(crate) fn cut_at(samples: &[u8], width: usize, n: usize, x: usize, y: usize) -> [u8; SAMPLES]
     requires { ⌜ (Inside n width (length (now samples)) x y) × (n ≤ 8) ⌝ }
-    ensures { λ r. ⌜ r ≡ upto 64 (n * n) (λ k. getD (now (samples .entry)) (place width (x + k % n) (y + k / n)) 0) 0 ⌝ }
+    ensures { λ r. ⌜ take (n * n) r ≡ cut n width x y (now (samples .entry)) ⌝ }
 {
     let mut block = [0u8; SAMPLES];
     for k in 0..n * n {

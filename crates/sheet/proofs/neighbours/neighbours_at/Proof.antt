@@ -4,8 +4,9 @@ use mathlib.Core.Path.{_≡_, refl, sym}
 use native.Mathlib.Omega.{arith}
 use borrow.Author.Needs.{needs}
 use Rattle.arith.specs.Lists.{upto}
-use Rattle.arith.proofs.ListLaws.{upto-none, fill-by, fill-end}
-use Rattle.sheet.specs.Neighbours.{readFrom, sourceAt}
+use Rattle.arith.proofs.ListLaws.{upto-none, fill-by}
+use Rattle.sheet.specs.Neighbours.{readFrom, sourceAt, neighboursAt}
+use Rattle.sheet.proofs.PartLaws.{take-filled}
 use Rattle.sheet.proofs.neighbours.neighbours_at.Statement.{statement}
 use Rattle.sheet.proofs.neighbours.neighbours_at.Tie as tie
 
@@ -38,7 +39,10 @@ loop-again : tie.Need-loop-again Inv-loop μ-loop
 loop-again c = (refl, omega arith, fill-by 32 _ _ 0 (c .before .before .loop .inv .2) (c .neighbour .ensures) (omega arith))
 
 returns : tie.Need-returns Inv-loop μ-loop
-returns c = fill-end 32 _ _ _ 0 (c .before .loop .inv .2) (omega arith) (omega arith)
+unfolding neighboursAt
+returns c =
+    let d = c .before .before .before in
+    take-filled 32 _ _ _ 0 (c .before .loop .inv .2) (omega arith) (omega (arith, d .pre .1))
 
 pub neighbours-at-spec : {M : Type 1} → statement M
 neighbours-at-spec =

@@ -6,8 +6,10 @@ use borrow.Author.Needs.{needs}
 use lib.ListN.{length, getD}
 use Rattle.arith.specs.Lists.{upto}
 use Rattle.arith.specs.Square.{place}
-use Rattle.arith.proofs.ListLaws.{upto-none, fill-by, fill-end}
+use Rattle.arith.proofs.ListLaws.{upto-none, fill-by}
 use Rattle.arith.proofs.SquareLaws.{column-lt, row-lt, square-le}
+use Rattle.sheet.specs.Samples.{cut}
+use Rattle.sheet.proofs.PartLaws.{take-filled}
 use Rattle.sheet.proofs.GridLaws.{sample-in, rows-few}
 use Rattle.sheet.proofs.samples.cut_at.Statement.{statement}
 use Rattle.sheet.proofs.samples.cut_at.Tie as tie
@@ -66,7 +68,10 @@ loop-again c = (
 )
 
 returns : tie.Need-returns Inv-loop μ-loop
-returns c = fill-end 64 _ _ _ 0 (c .before .loop .inv .2) (omega arith) (omega arith)
+unfolding cut
+returns c =
+    let d = c .before .before .before in
+    take-filled 64 _ _ _ 0 (c .before .loop .inv .2) (omega arith) (omega (arith, square-le {m = 8} (d .pre .1)))
 
 pub cut-at-spec : {M : Type 1} → statement M
 cut-at-spec =
