@@ -5,3 +5,4 @@ pub mod NeighbourLaws
 pub mod SampleLaws
 pub mod PartLaws
 pub mod StateLaws
+pub mod CallLaws

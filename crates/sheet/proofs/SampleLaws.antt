@@ -9,11 +9,11 @@ use native.Mathlib.Omega.{arith}
 use borrow.Author.Tests.{ltb-true, leb-true, lt-ltb, le-ltb, le-leb}
 use lib.Arith.{digits-div, digits-mod}
 use lib.Dec.{leb, ltb}
-use lib.ListN.{length, getD, set}
-use lib.Seq.{getD-set-same, getD-set-other, ext-getD}
+use lib.ListN.{length, getD, set, take}
+use lib.Seq.{getD-set-same, getD-set-other, getD-take}
 use Rattle.arith.specs.Square.{place}
 use Rattle.arith.proofs.Bools.{both-of}
-use Rattle.arith.proofs.ListLaws.{length-listOf, listOf-at, stored-all}
+use Rattle.arith.proofs.ListLaws.{length-listOf, listOf-at, listOf-ext, stored-all}
 use Rattle.arith.proofs.SquareLaws.{column-lt, row-lt, place-lt, place-own}
 use Rattle.sheet.specs.Grid.{Inside}
 use Rattle.sheet.specs.Samples.{covers, writtenAt, written, cut}
@@ -171,3 +171,23 @@ unfolding written
 after-all n w x y b s t k len e all =
     stored-all (writtenAt n w x y b s) 0 t (length s) len
     (λ j l. all j l ∙ ap (λ (m : ℕ). afterSamples n w x y b s m j) e ∙ after-whole n w x y b s j)
+
+-- only the block's own samples count
+pub written-part : (n w x y : ℕ) (b s : List ℕ) → written n w x y b s ≡ written n w x y (take (n * n) b) s
+unfolding written
+written-part n w x y b s = listOf-ext _ _ (length s) (λ j l. go j (covers n x y (j % w) (j / w)) refl)
+  where
+    go :
+        (j : ℕ) (a : Bool) → covers n x y (j % w) (j / w) ≡ a
+        → cond a (getD b (place n (j % w - x) (j / w - y)) 0) (getD s j 0)
+        ≡ cond a (getD (take (n * n) b) (place n (j % w - x) (j / w - y)) 0) (getD s j 0)
+    go j false e = refl
+    go j true e =
+        let p = covered n x y (j % w) (j / w) e in
+        sym (getD-take (n * n) b (place n (j % w - x) (j / w - y)) 0 (place-lt n (j % w - x) (j / w - y) (omega (arith, p .left, p .right)) (omega (arith, p .top, p .bottom))))
+
+-- the same, where the block's place and samples are known by equations
+pub written-by :
+    (n w x y : ℕ) (b p s : List ℕ) {x′ y′ : ℕ} {t : List ℕ} → t ≡ written n w x′ y′ b s → x′ ≡ x → y′ ≡ y → take (n * n) b ≡ p
+    → t ≡ written n w x y p s
+written-by n w x y b p s e ex ey ep = rw (ex, ey, written-part n w x y b s, ep) at e

@@ -1,10 +1,15 @@
 -- Document 01, "Sheet": placing a record. Assumes nothing.
 use Prim.Native.Nat.{ℕ, zero, suc}
-use mathlib.Core.Bool.{Bool, cond}
+use mathlib.Core.Path.{_≡_}
+use mathlib.Core.Bool.{Bool, true, cond}
 use mathlib.Core.List.{List, []}
 use lib.Dec.{ltb}
+use lib.IntN.{ℤ}
 use lib.ListN.{length}
 use Rattle.arith.specs.Checks.{Answer, answer, lent}
+use Rattle.depth_table.specs.Table.{tableOk}
+use Rattle.pattern.specs.Size.{wordOk}
+use Rattle.prediction.specs.Offset.{offsetOk}
 use Rattle.choice.specs.Record.{Case, caseOf, Record, patternBy, predictionOf}
 use Rattle.sheet.specs.Neighbours.{neighbours}
 use Rattle.sheet.specs.Samples.{written, cut}
@@ -45,6 +50,13 @@ nextWord S list texture kind entry = patternBy (placeCase S (materialOf list 0 [
 -- the samples with the record's predicted block in the next place
 unfoldable pub placedSamples : Sheet → Material → List ℕ → Record → List ℕ
 placedSamples S M s r = written (S .n) (S .width) (nextX S) (nextY S) (predictionOf (placeCase S M s) r) s
+
+-- a pattern, a table and offsets that prediction takes
+pub record Predictable (n word : ℕ) (t : List ℕ) (off0 off1 : ℤ) : Type 0 where
+  pub fits : wordOk n word ≡ true
+  pub sound : tableOk t ≡ true
+  pub first : offsetOk off0 ≡ true
+  pub second : offsetOk off1 ≡ true
 
 -- 1, 2, 8, 23, 20, 3, then the record's 7, 21, 6, 5, 4; samples is the length of the lent samples
 unfoldable pub placeRefusal : Sheet → ℕ → Material → Record → ℕ

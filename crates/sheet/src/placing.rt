@@ -1,21 +1,16 @@
 // Placing a record.
 ghost use mathlib.Core.Path.{_≡_};
-ghost use mathlib.Core.Bool.{true};
-ghost use mathlib.Core.Logic.{_⊎_};
 ghost use Prim.Native.Nat.{_*_, _≤_, _<_};
 ghost use lib.Dec.{ltb};
 ghost use lib.ListN.{length, getD, take};
 ghost use Rattle.arith.specs.Checks.{answer};
-ghost use Rattle.depth_table.specs.Table.{tableOk};
 ghost use Rattle.pattern.specs.Contour.{contourOf};
-ghost use Rattle.pattern.specs.Size.{sizeOk, wordOk};
 ghost use Rattle.prediction.specs.Block.{predicted};
-ghost use Rattle.prediction.specs.Offset.{offsetOk};
 ghost use Rattle.sheet.specs.Neighbours.{neighbours};
 ghost use Rattle.sheet.specs.Samples.{written, cut};
 ghost use Rattle.sheet.specs.State.{after, area, nextX, nextY, Open};
 ghost use Rattle.sheet.specs.Meaning.{kindRefusal};
-ghost use Rattle.sheet.specs.Place.{nextWord};
+ghost use Rattle.sheet.specs.Place.{Predictable, nextWord};
 ghost use Rattle.sheet.specs.Told.{meaningTold};
 use crate::Sheet;
 use crate::neighbours::NEIGHBOURS;
@@ -29,6 +24,13 @@ use pattern::Contoured;
 pub(crate) enum Meaning {
     Pattern(u64),
     Refused(u8),
+}
+
+// A block of zeros.
+fn blank() -> [u8; SAMPLES]
+    ensures { λ r. ⌜ length r ≡ 64 ⌝ }
+{
+    [0u8; SAMPLES]
 }
 
 impl Sheet {
@@ -77,5 +79,62 @@ impl Sheet {
             self.next_x(),
             self.next_y(),
         )
+    }
+
+    // The contour of the next block's own texture.
+    fn contour_next(self, texture: &[u8]) -> u64
+        requires { ⌜ (Open self) × (length (now texture) ≡ area self) ⌝ }
+        ensures { λ r. ⌜ r ≡ contourOf (self .n) (cut (self .n) (self .width) (nextX self) (nextY self) (now (texture .entry))) ⌝ }
+    {
+        let n = self.n as usize;
+        let block = self.cut_next(texture);
+        let count = n * n;
+        match pattern::contour(n, &block[..count]) {
+            Contoured::Word(word) => word,
+            Contoured::Refused(_) => 0,
+        }
+    }
+
+    // The predicted block of a pattern in the next place: n * n samples, row by row, and more past them.
+    fn predict_next(
+        self,
+        samples: &[u8],
+        word: u64,
+        table: &[u8],
+        off0: i32,
+        off1: i32,
+    ) -> [u8; SAMPLES]
+        requires { ⌜ (Open self) × (length (now samples) ≡ area self) × (Predictable (self .n) word (now table) off0 off1) ⌝ }
+        ensures { λ r. ⌜ take (self .n * self .n) r ≡ predicted (self .n) word (neighbours (self .n) (self .width) (self .placed) (now (samples .entry))) (now (table .entry)) off0 off1 ⌝ }
+    {
+        let n = self.n as usize;
+        let near = self.near_next(samples);
+        let border = 4 * n;
+        let count = n * n;
+        let mut block = blank();
+        prediction::predict(
+            n,
+            word,
+            &near[..border],
+            table,
+            off0,
+            off1,
+            &mut block[..count],
+        );
+        block
+    }
+
+    // Writes the predicted block of a pattern in the next place, and hands the next state back.
+    fn put(mut self, samples: &mut [u8], word: u64, table: &[u8], off0: i32, off1: i32) -> Sheet
+        requires { ⌜ (Open self) × (length (now samples) ≡ area self) × (Predictable (self .n) word (now table) off0 off1) ⌝ }
+        ensures state { λ r. ⌜ r ≡ after 1 self ⌝ }
+        ensures left { λ r. ⌜ now (samples .exit) ≡ written (self .n) (self .width) (nextX self) (nextY self) (predicted (self .n) word (neighbours (self .n) (self .width) (self .placed) (now (samples .entry))) (now (table .entry)) off0 off1) (now (samples .entry)) ⌝ }
+    {
+        let block = self.predict_next(samples, word, table, off0, off1);
+        let n = self.n as usize;
+        let width = self.width as usize;
+        write_at(samples, width, n, self.next_x(), self.next_y(), &block);
+        self.placed = self.placed + 1;
+        self
     }
 }

@@ -17,9 +17,9 @@ pub(crate) fn read_at(samples: &[u8], width: usize, column: usize, row: usize) -
     samples[row * width + column]
 }
 
-// Writes a block of n * n samples, row by row, at (x, y) of a sheet of the given width.
+// Writes the first n * n samples of a block, row by row, at (x, y) of a sheet of the given width.
 pub(crate) fn write_at(samples: &mut [u8], width: usize, n: usize, x: usize, y: usize, block: &[u8])
-    requires { ⌜ (Inside n width (length (now samples)) x y) × (length (now block) ≡ n * n) ⌝ }
+    requires { ⌜ (Inside n width (length (now samples)) x y) × (n * n ≤ length (now block)) ⌝ }
     ensures { λ _. ⌜ now (samples .exit) ≡ written n width x y (now (block .entry)) (now (samples .entry)) ⌝ }
 {
     for k in 0..n * n {
