@@ -6,3 +6,4 @@ pub mod SampleLaws
 pub mod PartLaws
 pub mod StateLaws
 pub mod CallLaws
+pub mod MeaningLaws

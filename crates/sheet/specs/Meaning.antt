@@ -3,11 +3,15 @@ use Prim.Native.Nat.{ℕ, zero, suc}
 use mathlib.Core.Bool.{Bool}
 use mathlib.Core.List.{List}
 use lib.Dec.{eqb, ltb}
+use lib.IntN.{ℤ}
 use lib.ListN.{getD}
 use Rattle.arith.specs.Checks.{unless}
 use Rattle.pattern.specs.Size.{wordOk}
 use Rattle.prediction.specs.Offset.{offsetOk}
 use Rattle.choice.specs.Record.{Record}
+
+abbrev pub recordOf : ℕ → ℕ → ℤ → ℤ → Record
+recordOf kind entry off0 off1 = record { kind = kind; entry = entry; off0 = off0; off1 = off1 }
 
 -- Kind 0: 6, the entry is not below the count; 5, its word has a bit from n * n up. Kind 1: 7, the entry is not 0; 21, there is no
 -- texture (no contour has a bit from n * n up). Any other kind: 7. Then the rest.

@@ -28,17 +28,18 @@ pub record Material : Type 0 where
 abbrev pub materialOf : List ℕ → ℕ → List ℕ → List ℕ → Material
 materialOf list count table texture = record { list = list; count = count; table = table; texture = texture }
 
-abbrev pub textured : Material → Bool
-textured M = ltb 0 (length (M .texture))
+-- texture is lent where there are samples of it
+abbrev pub textured : List ℕ → Bool
+textured texture = ltb 0 (length texture)
 
 -- the next block's own texture; none stays none
-abbrev pub nextTexture : Sheet → Material → List ℕ
-nextTexture S M = cond (textured M) (cut (S .n) (S .width) (nextX S) (nextY S) (M .texture)) []
+abbrev pub nextTexture : Sheet → List ℕ → List ℕ
+nextTexture S texture = cond (textured texture) (cut (S .n) (S .width) (nextX S) (nextY S) texture) []
 
 -- the next block as a case of the choice, with its neighbours read from the samples s; placing reads neither original nor reach
 abbrev pub nextCase : Sheet → Material → List ℕ → ℕ → List ℕ → Case
 nextCase S M original reach s =
-    caseOf (S .n) (M .list) (M .count) (neighbours (S .n) (S .width) (S .placed) s) original (M .table) reach (nextTexture S M)
+    caseOf (S .n) (M .list) (M .count) (neighbours (S .n) (S .width) (S .placed) s) original (M .table) reach (nextTexture S (M .texture))
 
 abbrev pub placeCase : Sheet → Material → List ℕ → Case
 placeCase S M s = nextCase S M [] 0 s
@@ -62,7 +63,7 @@ pub record Predictable (n word : ℕ) (t : List ℕ) (off0 off1 : ℤ) : Type 0 
 unfoldable pub placeRefusal : Sheet → ℕ → Material → Record → ℕ
 placeRefusal S samples M r =
     openRefusal S (lengthsOk S samples (length (M .list)) (M .count) (length (M .texture))) (M .table)
-    (recordRefusal (S .n) (M .list) (M .count) (textured M) r)
+    (recordRefusal (S .n) (M .list) (M .count) (textured (M .texture)) r)
 
 -- `place` answers the next state
 unfoldable pub placeAnswer : Sheet → List ℕ → Material → Record → Answer Sheet

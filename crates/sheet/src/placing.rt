@@ -1,16 +1,18 @@
 // Placing a record.
 ghost use mathlib.Core.Path.{_≡_};
-ghost use Prim.Native.Nat.{_*_, _≤_, _<_};
-ghost use lib.Dec.{ltb};
+ghost use mathlib.Core.Logic.{_⊎_};
+ghost use Prim.Native.Nat.{_*_, _≤_};
+ghost use lib.Dec.{eqb, ltb};
 ghost use lib.ListN.{length, getD, take};
-ghost use Rattle.arith.specs.Checks.{answer};
+ghost use Rattle.arith.specs.Checks.{unless, answer};
 ghost use Rattle.pattern.specs.Contour.{contourOf};
+ghost use Rattle.pattern.specs.Size.{wordOk};
 ghost use Rattle.prediction.specs.Block.{predicted};
 ghost use Rattle.sheet.specs.Neighbours.{neighbours};
 ghost use Rattle.sheet.specs.Samples.{written, cut};
 ghost use Rattle.sheet.specs.State.{after, area, nextX, nextY, Open};
 ghost use Rattle.sheet.specs.Meaning.{kindRefusal};
-ghost use Rattle.sheet.specs.Place.{Predictable, nextWord};
+ghost use Rattle.sheet.specs.Place.{textured, nextTexture, Predictable, nextWord};
 ghost use Rattle.sheet.specs.Told.{meaningTold};
 use crate::Sheet;
 use crate::neighbours::NEIGHBOURS;
@@ -31,6 +33,22 @@ fn blank() -> [u8; SAMPLES]
     ensures { λ r. ⌜ length r ≡ 64 ⌝ }
 {
     [0u8; SAMPLES]
+}
+
+// Kind 0: the word that the list has at the entry, or refusal 6 or 5.
+fn wedgelet_meaning(n: usize, list: &[u64], count: usize, entry: u32) -> Meaning
+    requires { ⌜ count ≤ length (now list) ⌝ }
+    ensures { λ r. ⌜ meaningTold r ≡ answer (unless (ltb entry count) 6 (unless (wordOk n (getD (now (list .entry)) entry 0)) 5 0)) (getD (now (list .entry)) entry 0) ⌝ }
+{
+    let at = entry as usize;
+    if count <= at {
+        return Meaning::Refused(6);
+    }
+    let word = list[at];
+    if !pattern::word_ok(n, word) {
+        return Meaning::Refused(5);
+    }
+    Meaning::Pattern(word)
 }
 
 impl Sheet {
@@ -136,5 +154,31 @@ impl Sheet {
         write_at(samples, width, n, self.next_x(), self.next_y(), &block);
         self.placed = self.placed + 1;
         self
+    }
+
+    // Kind 1: the contour of the next block's own texture, or refusal 7 or 21.
+    fn contour_meaning(self, texture: &[u8], entry: u32) -> Meaning
+        requires { ⌜ (Open self) × ((length (now texture) ≡ 0) ⊎ (length (now texture) ≡ area self)) ⌝ }
+        ensures { λ r. ⌜ meaningTold r ≡ answer (unless (eqb entry 0) 7 (unless (textured (now (texture .entry))) 21 0)) (contourOf (self .n) (nextTexture self (now (texture .entry)))) ⌝ }
+    {
+        if entry != 0 {
+            return Meaning::Refused(7);
+        }
+        if texture.len() == 0 {
+            return Meaning::Refused(21);
+        }
+        Meaning::Pattern(self.contour_next(texture))
+    }
+
+    // What a record's kind and entry mean for the next block.
+    fn meaning(self, list: &[u64], count: usize, texture: &[u8], kind: u32, entry: u32) -> Meaning
+        requires { ⌜ (Open self) × (count ≤ length (now list)) × ((length (now texture) ≡ 0) ⊎ (length (now texture) ≡ area self)) ⌝ }
+        ensures { λ r. ⌜ meaningTold r ≡ answer (kindRefusal (self .n) (now (list .entry)) count (textured (now (texture .entry))) kind entry 0) (nextWord self (now (list .entry)) (now (texture .entry)) kind entry) ⌝ }
+    {
+        match kind {
+            0 => wedgelet_meaning(self.n as usize, list, count, entry),
+            1 => self.contour_meaning(texture, entry),
+            _ => Meaning::Refused(7),
+        }
     }
 }
