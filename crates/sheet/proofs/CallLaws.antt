@@ -1,14 +1,13 @@
 -- The calls of the crates below that placing makes refuse nothing. Assumes nothing.
-use Prim.Native.Nat.{ℕ, _*_, _<_, _≤_}
+use Prim.Native.Nat.{ℕ, _*_}
 use mathlib.Core.Bool.{true}
 use mathlib.Core.List.{List, _++_}
-use mathlib.Core.Path.{_≡_, refl, sym, ap, _∙_}
-use native.Mathlib.Omega.{arith}
+use mathlib.Core.Path.{_≡_, sym, ap, _∙_}
 use borrow.Author.Tests.{eq-eqb}
 use lib.IntN.{ℤ}
 use lib.ListN.{length, take}
 use lib.Seq.{take-at}
-use Rattle.arith.specs.Checks.{Answer, refused, given}
+use Rattle.arith.specs.Checks.{given}
 use Rattle.pattern.specs.Size.{sizeOk}
 use Rattle.pattern.specs.Contour.{contourOf}
 use Rattle.pattern.specs.Answer.{samplesRefusal, contourAnswer}
@@ -40,14 +39,3 @@ predict-front n w s near t off0 off1 held rest size front four full p e0 e1 e =
 pub contour-given : (n : ℕ) (t : List ℕ) → sizeOk n ≡ true → length t ≡ n * n → contourAnswer n t ≡ given (contourOf n t)
 unfolding contourAnswer samplesRefusal
 contour-given n t size full = rw (size, eq-eqb _ _ full)
-
--- ---- what an answer says
-
-module _ {A : Type 0} where
-  -- two values that the same answer gives
-  pub given-same : {x v : A} → given x ≡ given v → x ≡ v
-  given-same e = cc
-
-  -- an answer that gives a value is no refusal
-  pub given-never {ℓ} : {X : Type ℓ} {number : ℕ} {v : A} → refused number ≡ given v → X
-  given-never {number = number} {v = v} e = absurd (let z : _≡_ {A = ℕ} 0 1 = cc in omega arith)

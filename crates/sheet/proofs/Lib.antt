@@ -4,6 +4,8 @@ pub mod SourceLaws
 pub mod NeighbourLaws
 pub mod SampleLaws
 pub mod PartLaws
+pub mod RefusalLaws
 pub mod StateLaws
 pub mod CallLaws
 pub mod MeaningLaws
+pub mod PlaceLaws

@@ -1,13 +1,12 @@
 -- Laws of a record's checks. Assumes nothing.
-use Prim.Native.Nat.{ℕ, zero, suc, _*_, _^_, _≤_, _<_}
-use mathlib.Core.Bool.{Bool, true, false}
+use Prim.Native.Nat.{ℕ, zero, suc, _*_}
+use mathlib.Core.Bool.{Bool, true}
 use mathlib.Core.List.{List}
-use mathlib.Core.Path.{_≡_, refl, _∙_}
+use mathlib.Core.Path.{_≡_, refl}
 use native.Mathlib.Omega.{arith}
 use borrow.Author.Tests.{lt-ltb}
 use lib.Dec.{eqb, ltb}
 use lib.ListN.{getD}
-use Rattle.arith.specs.Checks.{unless}
 use Rattle.arith.proofs.BitLaws.{bits-lt}
 use Rattle.arith.proofs.CheckLaws.{passed}
 use Rattle.pattern.specs.Contour.{contourOf}
@@ -15,13 +14,7 @@ use Rattle.pattern.specs.Size.{wordOk}
 use Rattle.sheet.specs.Meaning.{kindRefusal}
 use Rattle.sheet.specs.Place.{nextWord}
 use Rattle.sheet.specs.declared.Sheet.{Sheet}
-
--- ---- checks one after the other
-
--- a check that fails has the same number, whatever comes after it
-pub unless-kept : (b : Bool) (k : ℕ) {x y : ℕ} → ((x ≡ 0 → ⊥) → y ≡ x) → (unless b (suc k) x ≡ 0 → ⊥) → unless b (suc k) y ≡ unless b (suc k) x
-unless-kept true k h f = h f
-unless-kept false k h f = refl
+use Rattle.sheet.proofs.RefusalLaws.{unless-kept}
 
 -- no contour has a bit from n * n up
 pub contour-fits : (n : ℕ) (t : List ℕ) → wordOk n (contourOf n t) ≡ true

@@ -1,5 +1,6 @@
 // Placing a record.
 ghost use mathlib.Core.Path.{_≡_};
+ghost use mathlib.Core.Bool.{_&&_};
 ghost use mathlib.Core.Logic.{_⊎_};
 ghost use Prim.Native.Nat.{_*_, _≤_};
 ghost use lib.Dec.{eqb, ltb};
@@ -8,12 +9,14 @@ ghost use Rattle.arith.specs.Checks.{unless, answer};
 ghost use Rattle.pattern.specs.Contour.{contourOf};
 ghost use Rattle.pattern.specs.Size.{wordOk};
 ghost use Rattle.prediction.specs.Block.{predicted};
+ghost use Rattle.prediction.specs.Offset.{offsetOk};
 ghost use Rattle.sheet.specs.Neighbours.{neighbours};
 ghost use Rattle.sheet.specs.Samples.{written, cut};
 ghost use Rattle.sheet.specs.State.{after, area, nextX, nextY, Open};
-ghost use Rattle.sheet.specs.Meaning.{kindRefusal};
-ghost use Rattle.sheet.specs.Place.{textured, nextTexture, Predictable, nextWord};
-ghost use Rattle.sheet.specs.Told.{meaningTold};
+ghost use Rattle.sheet.specs.Meaning.{recordOf, kindRefusal};
+ghost use Rattle.sheet.specs.Place.{materialOf, textured, nextTexture, Predictable, nextWord, placeAnswer, placeAfter};
+ghost use Rattle.sheet.specs.Told.{meaningTold, placeTold};
+use crate::Placed;
 use crate::Sheet;
 use crate::neighbours::NEIGHBOURS;
 use crate::neighbours::neighbours_at;
@@ -33,6 +36,16 @@ fn blank() -> [u8; SAMPLES]
     ensures { λ r. ⌜ length r ≡ 64 ⌝ }
 {
     [0u8; SAMPLES]
+}
+
+// Whether both offsets are -255 to 255.
+fn offsets_ok(off0: i32, off1: i32) -> bool
+    ensures { λ r. ⌜ r ≡ (offsetOk off0 && offsetOk off1) ⌝ }
+{
+    if !prediction::offset_ok(off0) {
+        return false;
+    }
+    prediction::offset_ok(off1)
 }
 
 // Kind 0: the word that the list has at the entry, or refusal 6 or 5.
@@ -179,6 +192,39 @@ impl Sheet {
             0 => wedgelet_meaning(self.n as usize, list, count, entry),
             1 => self.contour_meaning(texture, entry),
             _ => Meaning::Refused(7),
+        }
+    }
+
+    // Places a record: writes its predicted block in the next place and answers the next state, or refuses with 1, 2, 8, 23, 20, 3, 7,
+    // 21, 6, 5 or 4 and writes nothing.
+    pub fn place(
+        self,
+        samples: &mut [u8],
+        list: &[u64],
+        count: usize,
+        table: &[u8],
+        texture: &[u8],
+        kind: u32,
+        entry: u32,
+        off0: i32,
+        off1: i32,
+    ) -> Placed
+        ensures answered { λ r. ⌜ placeTold r ≡ placeAnswer self (now (samples .entry)) (materialOf (now (list .entry)) count (now (table .entry)) (now (texture .entry))) (recordOf kind entry off0 off1) ⌝ }
+        ensures left { λ r. ⌜ now (samples .exit) ≡ placeAfter self (now (samples .entry)) (materialOf (now (list .entry)) count (now (table .entry)) (now (texture .entry))) (recordOf kind entry off0 off1) ⌝ }
+    {
+        let lengths = self.lengths_ok(samples.len(), list.len(), count, texture.len());
+        let refusal = self.open_refusal(lengths, table);
+        if refusal != 0 {
+            return Placed::Refused(refusal);
+        }
+        match self.meaning(list, count, texture, kind, entry) {
+            Meaning::Refused(number) => Placed::Refused(number),
+            Meaning::Pattern(word) => {
+                if !offsets_ok(off0, off1) {
+                    return Placed::Refused(4);
+                }
+                Placed::Next(self.put(samples, word, table, off0, off1))
+            }
         }
     }
 }

@@ -13,7 +13,8 @@ use Rattle.pattern.specs.Answer.{contourAnswer}
 use Rattle.sheet.specs.Samples.{cut}
 use Rattle.sheet.specs.State.{nextX, nextY}
 use Rattle.pattern.specs.Told.{contourTold}
-use Rattle.sheet.proofs.CallLaws.{contour-given, given-same, given-never}
+use Rattle.sheet.proofs.CallLaws.{contour-given}
+use Rattle.sheet.proofs.RefusalLaws.{given-same, given-never}
 use Rattle.sheet.proofs.Sheet.contour_next.Statement.{statement}
 use Rattle.sheet.proofs.Sheet.contour_next.Tie as tie
 
