@@ -5,5 +5,6 @@ pub mod Samples
 pub mod State
 pub mod Meaning
 pub mod Place
+pub mod Compose
 pub mod Told
 pub mod Examples

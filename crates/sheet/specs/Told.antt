@@ -6,6 +6,8 @@ use Rattle.sheet.specs.declared.Made.{Made}
 use Rattle.sheet.specs.declared.Made.the-variants as made
 use Rattle.sheet.specs.declared.Placed.{Placed}
 use Rattle.sheet.specs.declared.Placed.the-variants as placed
+use Rattle.sheet.specs.declared.Composed.{Composed}
+use Rattle.sheet.specs.declared.Composed.the-variants as composed
 use Rattle.sheet.specs.declared.placing.Meaning.{Meaning}
 use Rattle.sheet.specs.declared.placing.Meaning.the-variants as meaning
 
@@ -16,6 +18,10 @@ newTold (made.Refused number) = refused number
 abbrev pub placeTold : Placed → Answer Sheet
 placeTold (placed.Next S) = given S
 placeTold (placed.Refused number) = refused number
+
+abbrev pub composeTold : Composed → Answer (Sheet × ℕ)
+composeTold (composed.Finished S written) = given (S, written)
+composeTold (composed.Refused number) = refused number
 
 abbrev pub meaningTold : Meaning → Answer ℕ
 meaningTold (meaning.Pattern word) = given word

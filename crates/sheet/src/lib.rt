@@ -23,3 +23,9 @@ pub enum Placed {
     Next(Sheet),
     Refused(u8),
 }
+
+// What `Sheet::compose` answers: the finished state and the number of records written, or the number of its refusal.
+pub enum Composed {
+    Finished(Sheet, usize),
+    Refused(u8),
+}
