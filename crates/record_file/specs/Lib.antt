@@ -1,0 +1,5 @@
+-- Document 01, "House file".
+pub mod Text
+pub mod Reading
+pub mod Writing
+pub mod Examples

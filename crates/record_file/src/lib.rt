@@ -1,0 +1,1 @@
+// The record file (document 01, "House file").
