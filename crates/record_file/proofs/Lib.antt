@@ -1,1 +1,5 @@
 -- Laws of the record file.
+pub mod MeaningLaws
+pub mod FileLaws
+pub mod RefusalLaws
+pub mod RoundTrip
