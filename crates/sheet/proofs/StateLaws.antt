@@ -114,6 +114,7 @@ module _ (S : Sheet) (lengths : Bool) (t : List ℕ) where
           is =
               record {
                 size = a .0;
+                sides = c .0;
                 low = n .0;
                 high = n .1;
                 wide = w .0;
