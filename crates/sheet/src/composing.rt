@@ -86,4 +86,67 @@ impl Sheet {
         }
         self.cut_next(texture)
     }
+
+    // The choice for the next block.
+    fn choose_next(
+        self,
+        samples: &[u8],
+        original: &[u8],
+        list: &[u64],
+        count: usize,
+        table: &[u8],
+        reach: u32,
+        texture: &[u8],
+    ) -> Choice
+        requires { ⌜ (Open self) × (length (now samples) ≡ area self) × (length (now original) ≡ area self) × ((length (now texture) ≡ 0) ⊎ (length (now texture) ≡ area self)) ⌝ }
+        ensures { λ r. ⌜ chooseTold r ≡ chooseAnswer (composeCase self (taskOf (materialOf (now (list .entry)) count (now (table .entry)) (now (texture .entry))) (now (original .entry)) reach) (now (samples .entry))) ⌝ }
+    {
+        let n = self.n as usize;
+        let near = self.near_next(samples);
+        let border = 4 * n;
+        let own = self.cut_next(original);
+        let block = n * n;
+        let light = self.texture_next(texture);
+        let part = self.texture_count(texture);
+        choice::choose(
+            n,
+            list,
+            count,
+            &near[..border],
+            &own[..block],
+            table,
+            reach,
+            &light[..part],
+        )
+    }
+
+    // Places a record that is not refused.
+    fn place_next(
+        self,
+        samples: &mut [u8],
+        list: &[u64],
+        count: usize,
+        table: &[u8],
+        texture: &[u8],
+        best: Best,
+    ) -> Sheet
+        requires { ⌜ placeRefusal self (length (now samples)) (materialOf (now list) count (now table) (now texture)) (recordTold best) ≡ 0 ⌝ }
+        ensures state { λ r. ⌜ r ≡ after 1 self ⌝ }
+        ensures left { λ r. ⌜ now (samples .exit) ≡ placedSamples self (materialOf (now (list .entry)) count (now (table .entry)) (now (texture .entry))) (now (samples .entry)) (recordTold best) ⌝ }
+    {
+        match self.place(
+            samples,
+            list,
+            count,
+            table,
+            texture,
+            best.kind,
+            best.entry,
+            best.off0,
+            best.off1,
+        ) {
+            Placed::Next(state) => state,
+            Placed::Refused(_) => self,
+        }
+    }
 }
