@@ -1,5 +1,6 @@
 -- `blocks` meets its contract: the quotients of numbers of 32 bits have a product of 64.
 use borrow.Author.Needs.{needs}
+use Prim.Native.Nat.{_/_}
 use native.Mathlib.Nat.{div-zero, zero-mul}
 use Rattle.sheet.proofs.GridLaws.{blocks-fit}
 use Rattle.sheet.proofs.Sheet.blocks.Statement.{statement}
@@ -9,7 +10,7 @@ cast-n : tie.Need-cast-n
 cast-n c = search needs
 
 returns : tie.Need-returns
-returns c = rw (c .if1 .taken, div-zero, zero-mul)
+returns c = let s = c .before .before .args .self in rw (c .if1 .taken, div-zero (s .width), zero-mul (s .height / 0))
 
 cast-across : tie.Need-cast-across
 cast-across c = search needs
