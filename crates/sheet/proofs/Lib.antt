@@ -9,3 +9,4 @@ pub mod StateLaws
 pub mod CallLaws
 pub mod MeaningLaws
 pub mod PlaceLaws
+pub mod ComposeLaws

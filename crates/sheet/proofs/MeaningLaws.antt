@@ -1,5 +1,5 @@
 -- Laws of a record's checks. Assumes nothing.
-use Prim.Native.Nat.{ℕ, zero, suc, _*_}
+use Prim.Native.Nat.{ℕ, zero, suc, _*_, _<_}
 use mathlib.Core.Bool.{Bool, true}
 use mathlib.Core.List.{List}
 use mathlib.Core.Path.{_≡_, refl}
@@ -48,6 +48,15 @@ module _ (n : ℕ) (list : List ℕ) (count : ℕ) (lent : Bool) where
       let q = passed lent 20 0 (p .1) in
       rw (p .0, q .0)
   kind-passed (suc (suc kind)) entry rest h = absurd (omega arith)
+
+  -- records that are not refused
+  pub kind-zero :
+      {kind : ℕ} (entry rest : ℕ) → kind ≡ 0 → entry < count → wordOk n (getD list entry 0) ≡ true
+      → kindRefusal n list count lent kind entry rest ≡ rest
+  kind-zero entry rest e l w = rw (e, lt-ltb entry count l, w)
+
+  pub kind-one : {kind : ℕ} (entry rest : ℕ) → kind ≡ 1 → entry ≡ 0 → lent ≡ true → kindRefusal n list count lent kind entry rest ≡ rest
+  kind-one entry rest e z l = rw (e, z, l)
 
 -- the pattern of a record that is not refused marks samples of the block only
 pub word-fits :

@@ -45,6 +45,12 @@ module _ (S : Sheet) (s : List ℕ) (M : Material) (r : Record) where
     q ∙ lent-given (placeRefusal S (length s) M r) (placedSamples S M s r) s e,
   )
 
+  -- what is not refused
+  pub place-accepted :
+      placeRefusal S (length s) M r ≡ 0 → (placeAnswer S s M r ≡ given (after 1 S)) × (placeAfter S s M r ≡ placedSamples S M s r)
+  unfolding placeAnswer placeAfter
+  place-accepted e = (rw e, rw e)
+
 -- ---- check by check
 
 module _ (S : Sheet) (s : List ℕ) (M : Material) (r : Record) where

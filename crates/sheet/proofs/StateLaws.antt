@@ -1,12 +1,12 @@
 -- What holds of a state that has a block to place, and of one that the checks pass. Assumes nothing.
 use Prim.Native.Nat.{ℕ, _+_, _*_, _/_, _%_, _≤_, _<_}
-use mathlib.Core.Bool.{Bool, true, _&&_, _||_}
+use mathlib.Core.Bool.{Bool, true, false, _&&_, _||_}
 use mathlib.Core.List.{List}
 use mathlib.Core.Logic.{_⊎_, inl, inr, ⊎-elim}
 use mathlib.Core.Path.{_≡_, refl}
 use native.Mathlib.Nat.{mul-le-mul}
 use native.Mathlib.Omega.{arith}
-use borrow.Author.Tests.{eqb-true, leb-true, ltb-true}
+use borrow.Author.Tests.{eq-eqb, eqb-true, le-leb, leb-true, lt-ltb, ltb-true}
 use lib.Dec.{eqb, leb, ltb}
 use Rattle.arith.proofs.Bools.{both-of, either-of}
 use Rattle.arith.proofs.CheckLaws.{passed}
@@ -75,6 +75,24 @@ lengths-are S samples words count texture h =
       few = leb-true count 9999 (c .1);
     }
 
+or-true : (b : Bool) → b || true ≡ true
+or-true true = refl
+or-true false = refl
+
+one-of : (t p q : ℕ) → (t ≡ p) ⊎ (t ≡ q) → eqb t p || eqb t q ≡ true
+one-of t p q = ⊎-elim (λ e. rw (eq-eqb t p e)) (λ e. rw (eq-eqb t q e) (or-true (eqb t p)))
+
+pub lengths-do :
+    (S : Sheet) (samples words count texture : ℕ) → Lengths S samples words count texture → lengthsOk S samples words count texture ≡ true
+unfolding lengthsOk
+lengths-do S samples words count texture h =
+    rw (
+      eq-eqb samples (area S) (h .whole),
+      one-of texture 0 (area S) (h .optional),
+      le-leb count words (h .inside),
+      le-leb count 9999 (h .few),
+    )
+
 module _ (S : Sheet) (lengths : Bool) (t : List ℕ) where
   -- a refusal of the state or the table stays, whatever is checked after it
   pub open-kept : (rest : ℕ) → (openRefusal S lengths t 0 ≡ 0 → ⊥) → openRefusal S lengths t rest ≡ openRefusal S lengths t 0
@@ -114,6 +132,7 @@ module _ (S : Sheet) (lengths : Bool) (t : List ℕ) where
           is =
               record {
                 size = a .0;
+                sides = c .0;
                 low = n .0;
                 high = n .1;
                 wide = w .0;
@@ -123,6 +142,19 @@ module _ (S : Sheet) (lengths : Bool) (t : List ℕ) where
               };
         },
         f .1,
+      )
+
+  -- such a state is not refused
+  pub open-none : (rest : ℕ) → Open S → lengths ≡ true → tableOk t ≡ true → openRefusal S lengths t rest ≡ rest
+  unfolding openRefusal stateRefusal
+  open-none rest o right sound =
+      rw (
+        o .size,
+        right,
+        o .sides,
+        le-leb (S .placed) (blocksOf S) (omega (arith, o .missing)),
+        lt-ltb (S .placed) (blocksOf S) (o .missing),
+        sound,
       )
 
   -- then what is checked after it decides

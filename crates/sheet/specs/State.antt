@@ -72,6 +72,7 @@ openRefusal S lengths t rest =
 -- what holds of a state that has a block to place
 pub record Open (S : Sheet) : Type 0 where
   pub size : sizeOk (S .n) ≡ true
+  pub sides : sidesOk S ≡ true
   pub low : 4 ≤ S .n
   pub high : S .n ≤ 8
   pub wide : S .n ≤ S .width

@@ -1,4 +1,5 @@
 // A sheet of blocks (document 01, "Sheet").
+mod composing;
 mod neighbours;
 mod placing;
 mod samples;

@@ -9,7 +9,8 @@ use crate::samples::read_at;
 // The neighbours of the greatest block.
 pub(crate) const NEIGHBOURS: usize = 32;
 
-fn lesser(a: usize, b: usize) -> usize
+// The lesser of two numbers.
+pub(crate) fn lesser(a: usize, b: usize) -> usize
     ensures { λ r. ⌜ r ≡ min a b ⌝ }
 {
     if a < b { a } else { b }

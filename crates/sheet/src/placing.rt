@@ -21,6 +21,7 @@ use crate::Sheet;
 use crate::neighbours::NEIGHBOURS;
 use crate::neighbours::neighbours_at;
 use crate::samples::SAMPLES;
+use crate::samples::blank;
 use crate::samples::cut_at;
 use crate::samples::write_at;
 use pattern::Contoured;
@@ -29,13 +30,6 @@ use pattern::Contoured;
 pub(crate) enum Meaning {
     Pattern(u64),
     Refused(u8),
-}
-
-// A block of zeros.
-fn blank() -> [u8; SAMPLES]
-    ensures { λ r. ⌜ length r ≡ 64 ⌝ }
-{
-    [0u8; SAMPLES]
 }
 
 // Whether both offsets are -255 to 255.

@@ -9,6 +9,13 @@ ghost use Rattle.sheet.specs.Samples.{written, cut};
 // The samples of the greatest block.
 pub(crate) const SAMPLES: usize = 64;
 
+// A block of zeros.
+pub(crate) fn blank() -> [u8; SAMPLES]
+    ensures { λ r. ⌜ length r ≡ 64 ⌝ }
+{
+    [0u8; SAMPLES]
+}
+
 // The sample in a column and a row of a sheet of the given width.
 pub(crate) fn read_at(samples: &[u8], width: usize, column: usize, row: usize) -> u8
     requires { ⌜ place width column row < length (now samples) ⌝ }

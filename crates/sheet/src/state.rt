@@ -75,12 +75,14 @@ impl Sheet {
         })
     }
 
-    // The number of its blocks.
+    // The number of its blocks, 0 where n is 0.
     pub(crate) fn blocks(self) -> u64
-        requires { ⌜ 0 < self .n ⌝ }
         ensures { λ r. ⌜ r ≡ blocksOf self ⌝ }
     {
         let n = self.n as u64;
+        if n == 0 {
+            return 0;
+        }
         let across = self.width as u64 / n;
         let down = self.height as u64 / n;
         across * down

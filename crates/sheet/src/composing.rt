@@ -1,0 +1,152 @@
+// Composing: every block still missing is chosen and placed.
+ghost use mathlib.Core.Path.{_≡_};
+ghost use mathlib.Core.Bool.{cond};
+ghost use mathlib.Core.Logic.{_⊎_};
+ghost use Prim.Native.Nat.{_*_, _<_, _≤_, min};
+ghost use lib.ListN.{length, set, take};
+ghost use Rattle.depth_table.specs.Table.{tableOk};
+ghost use Rattle.choice.specs.Answer.{chooseAnswer, chooseTold, recordTold};
+ghost use Rattle.sheet.specs.State.{after, area, lengthsOk, Open};
+ghost use Rattle.sheet.specs.Place.{materialOf, textured, nextTexture, placedSamples, placeRefusal};
+ghost use Rattle.sheet.specs.Compose.{taskOf, composeCase, recordsLent, composeLengthsOk, composeAnswer, composeAfter, composeField};
+ghost use Rattle.sheet.specs.Told.{composeTold};
+use crate::Composed;
+use crate::Placed;
+use crate::Sheet;
+use crate::neighbours::lesser;
+use crate::samples::SAMPLES;
+use crate::samples::blank;
+use choice::Best;
+use choice::Choice;
+
+// Writes a record at a place of the lent records.
+fn store(
+    kinds: &mut [u32],
+    entries: &mut [u32],
+    offs0: &mut [i32],
+    offs1: &mut [i32],
+    at: usize,
+    best: Best,
+)
+    requires { ⌜ (at < length (now kinds)) × (at < length (now entries)) × (at < length (now offs0)) × (at < length (now offs1)) ⌝ }
+    ensures kind { λ _. ⌜ now (kinds .exit) ≡ set (now (kinds .entry)) at (best .kind) ⌝ }
+    ensures entry { λ _. ⌜ now (entries .exit) ≡ set (now (entries .entry)) at (best .entry) ⌝ }
+    ensures first { λ _. ⌜ now (offs0 .exit) ≡ set (now (offs0 .entry)) at (best .off0) ⌝ }
+    ensures second { λ _. ⌜ now (offs1 .exit) ≡ set (now (offs1 .entry)) at (best .off1) ⌝ }
+{
+    kinds[at] = best.kind;
+    entries[at] = best.entry;
+    let off0 = best.off0;
+    offs0[at] = off0;
+    let off1 = best.off1;
+    offs1[at] = off1;
+}
+
+impl Sheet {
+    // Whether what is lent to composing fits the sheet.
+    fn compose_lengths_ok(
+        self,
+        samples: usize,
+        words: usize,
+        count: usize,
+        texture: usize,
+        original: usize,
+        records: usize,
+    ) -> bool
+        ensures { λ r. ⌜ r ≡ composeLengthsOk self samples words count texture original records ⌝ }
+    {
+        if !self.lengths_ok(samples, words, count, texture) {
+            return false;
+        }
+        if original != samples {
+            return false;
+        }
+        self.blocks() <= records as u64
+    }
+
+    // The samples of the next block's own texture: n * n, and 0 where none is lent.
+    fn texture_count(self, texture: &[u8]) -> usize
+        requires { ⌜ Open self ⌝ }
+        ensures { λ r. ⌜ r ≡ cond (textured (now (texture .entry))) (self .n * self .n) 0 ⌝ }
+    {
+        if texture.len() == 0 {
+            return 0;
+        }
+        let n = self.n as usize;
+        n * n
+    }
+
+    // The next block's own texture, and more past it.
+    fn texture_next(self, texture: &[u8]) -> [u8; SAMPLES]
+        requires { ⌜ (Open self) × ((length (now texture) ≡ 0) ⊎ (length (now texture) ≡ area self)) ⌝ }
+        ensures { λ r. ⌜ take (cond (textured (now (texture .entry))) (self .n * self .n) 0) r ≡ nextTexture self (now (texture .entry)) ⌝ }
+    {
+        if texture.len() == 0 {
+            return blank();
+        }
+        self.cut_next(texture)
+    }
+
+    // The choice for the next block.
+    fn choose_next(
+        self,
+        samples: &[u8],
+        original: &[u8],
+        list: &[u64],
+        count: usize,
+        table: &[u8],
+        reach: u32,
+        texture: &[u8],
+    ) -> Choice
+        requires { ⌜ (Open self) × (length (now samples) ≡ area self) × (length (now original) ≡ area self) × ((length (now texture) ≡ 0) ⊎ (length (now texture) ≡ area self)) ⌝ }
+        ensures { λ r. ⌜ chooseTold r ≡ chooseAnswer (composeCase self (taskOf (materialOf (now (list .entry)) count (now (table .entry)) (now (texture .entry))) (now (original .entry)) reach) (now (samples .entry))) ⌝ }
+    {
+        let n = self.n as usize;
+        let near = self.near_next(samples);
+        let border = 4 * n;
+        let own = self.cut_next(original);
+        let block = n * n;
+        let light = self.texture_next(texture);
+        let part = self.texture_count(texture);
+        choice::choose(
+            n,
+            list,
+            count,
+            &near[..border],
+            &own[..block],
+            table,
+            reach,
+            &light[..part],
+        )
+    }
+
+    // Places a record that is not refused.
+    fn place_next(
+        self,
+        samples: &mut [u8],
+        list: &[u64],
+        count: usize,
+        table: &[u8],
+        texture: &[u8],
+        best: Best,
+    ) -> Sheet
+        requires { ⌜ placeRefusal self (length (now samples)) (materialOf (now list) count (now table) (now texture)) (recordTold best) ≡ 0 ⌝ }
+        ensures state { λ r. ⌜ r ≡ after 1 self ⌝ }
+        ensures left { λ r. ⌜ now (samples .exit) ≡ placedSamples self (materialOf (now (list .entry)) count (now (table .entry)) (now (texture .entry))) (now (samples .entry)) (recordTold best) ⌝ }
+    {
+        match self.place(
+            samples,
+            list,
+            count,
+            table,
+            texture,
+            best.kind,
+            best.entry,
+            best.off0,
+            best.off1,
+        ) {
+            Placed::Next(state) => state,
+            Placed::Refused(_) => self,
+        }
+    }
+}
