@@ -1,12 +1,12 @@
 -- Both inverse laws of the whole text: reading gives what was printed, and what is read was printed so. Assumes nothing.
-use Prim.Native.Nat.{ℕ, zero, suc, _+_, _≤_, _<_, _*_}
+use Prim.Native.Nat.{ℕ, _+_, _≤_, _<_, _*_}
 use mathlib.Core.Path.{_≡_, refl, ap, sym, _∙_}
-use mathlib.Core.Bool.{Bool, true, false, _&&_, _||_}
-use mathlib.Core.List.{List, [], _∷_, _++_, append-assoc, append-nil}
+use mathlib.Core.Bool.{true, _&&_, _||_}
+use mathlib.Core.List.{List, [], _++_, append-nil}
 use native.Mathlib.Omega.{arith}
-use borrow.Author.Tests.{leb-true, ltb-true, eqb-true}
-use lib.Dec.{leb, ltb, eqb}
-use lib.IntN.{ℤ, pos, natAbs}
+use borrow.Author.Tests.{leb-true}
+use lib.Dec.{leb, eqb}
+use lib.IntN.{pos}
 use lib.ListN.{length, getD}
 use Rattle.arith.proofs.Bools.{both-of}
 use Rattle.arith.proofs.CheckLaws.{passed}
@@ -18,14 +18,14 @@ use Rattle.sheet.specs.State.{stateOf, sidesOk}
 use Rattle.sheet.proofs.StateLaws.{side-bounds}
 use Rattle.record_text.specs.declared.cursor.SizeFields.{SizeFields}
 use Rattle.record_text.specs.declared.cursor.RecordFields.{RecordFields}
-use Rattle.record_text.specs.Codec.{Codec, SizePrintable, RecordPrintable}
+use Rattle.record_text.specs.Codec.{SizePrintable, RecordPrintable}
 use Rattle.record_text.specs.Parsed.{exactly}
 use Rattle.record_text.specs.Line.{sizeTitle, depthTitle, recordTitle, sizeLine, sizeText, valueLine, valueText, recordLine, recordText}
-use Rattle.record_text.specs.Lines.{Lined, refusedAt, read, line, linesThen, noMeaning, manyLines, ended, texts, Each}
+use Rattle.record_text.specs.Lines.{read, noMeaning, texts, Each}
 use Rattle.record_text.proofs.ParsedLaws.{exactly-reads, exactly-wrote}
 use Rattle.record_text.proofs.LineLaws.{size-line, value-line, record-line}
 use Rattle.record_text.proofs.LinesLaws.{line-read, line-parts, lines-read, lines-parts, ended-parts, many-reads, many-wrote}
-use Rattle.record_file.specs.Text.{sizeFieldsOf, fileText, meant}
+use Rattle.record_file.specs.Text.{sizeFieldsOf, fileText}
 use Rattle.record_file.specs.Reading.{File, fileOf, Aids, sizeMeaning, valueMeaning, lowAfter, recordMeaning, unchanged, valueLines, recordLines, lastLines, bodyLines, fileLines}
 use Rattle.record_file.proofs.MeaningLaws.{SoundValue, values-sound, sound-values, each-made, each-at, record-small, small-printable}
 

@@ -2,4 +2,6 @@
 pub mod MeaningLaws
 pub mod FileLaws
 pub mod RefusalLaws
+pub mod SpaceLaws
+pub mod WriteLaws
 pub mod RoundTrip

@@ -8,7 +8,6 @@ use borrow.Author.Tests.{leb-true, ltb-true, eqb-true}
 use lib.Dec.{leb, ltb, eqb}
 use lib.IntN.{ℤ, natAbs}
 use lib.ListN.{length, getD}
-use Rattle.arith.specs.Checks.{unless}
 use Rattle.arith.proofs.Bools.{both-of}
 use Rattle.arith.proofs.CheckLaws.{passed}
 use Rattle.depth_table.specs.Table.{bytes, rising}
@@ -16,11 +15,13 @@ use Rattle.pattern.specs.Size.{wordOk}
 use Rattle.prediction.specs.Offset.{offsetOk}
 use Rattle.choice.specs.Record.{Record}
 use Rattle.sheet.specs.Meaning.{kindRefusal, offsetRefusal, recordRefusal}
+use Rattle.sheet.proofs.MeaningLaws.{kind-kept, kind-passed}
 use Rattle.record_text.specs.declared.cursor.RecordFields.{RecordFields}
 use Rattle.record_text.specs.Codec.{NumberPrintable, RecordPrintable}
 use Rattle.record_text.specs.Lines.{Each}
 use Rattle.record_file.specs.Text.{meant}
-use Rattle.record_file.specs.Reading.{Aids, valueMeaning, lowAfter, recordMeaning, unchanged}
+use Rattle.record_file.specs.Writing.{Small}
+use Rattle.record_file.specs.Reading.{valueMeaning, lowAfter}
 
 -- ---- table values
 
@@ -79,13 +80,7 @@ offset-parts r h =
     let q = passed (leb (natAbs (r .off1)) 255) 3 _ (p .1) in
     (leb-true _ _ (p .0), leb-true _ _ (q .0))
 
--- how far the numbers of a record that is not refused go
-pub record Small (r : RecordFields) : Type 0 where
-  pub kind : r .kind ≤ 1
-  pub entry : r .entry ≤ 9998
-  pub off0 : natAbs (r .off0) ≤ 255
-  pub off1 : natAbs (r .off1) ≤ 255
-
+-- how far its numbers go
 pub record-small : (n : ℕ) (list : List ℕ) (count : ℕ) (lent : Bool) (r : RecordFields) → count ≤ 9999 → recordRefusal n list count lent (meant r) ≡ 0 → Small r
 unfolding recordRefusal
 record-small n list count lent r few h =
@@ -118,3 +113,32 @@ where-textured n list count lent (suc (suc kind)) entry rest t h = h
 pub read-sound : (n : ℕ) (list : List ℕ) (count : ℕ) (lent : Bool) (r : RecordFields) → (r .kind ≡ 1 → lent ≡ true) → recordRefusal n list count true (meant r) ≡ 0 → recordRefusal n list count lent (meant r) ≡ 0
 unfolding recordRefusal
 read-sound n list count lent r t h = where-textured n list count lent (r .kind) (r .entry) _ t h
+
+-- ---- the checks of a record as the code makes them: kind and entry, then each offset
+
+module _ (n : ℕ) (list : List ℕ) (count : ℕ) (lent : Bool) (r : RecordFields) where
+  pub kind-refuses : {x : ℕ} → x ≡ kindRefusal n list count lent (r .kind) (r .entry) 0 → (x ≡ 0 → ⊥) → x ≡ recordRefusal n list count lent (meant r)
+  unfolding recordRefusal
+  kind-refuses e h =
+      e ∙ sym (kind-kept n list count lent (r .kind) (r .entry) (offsetRefusal (meant r)) (λ z. h (e ∙ z)))
+
+  module _ (k : kindRefusal n list count lent (r .kind) (r .entry) 0 ≡ 0) where
+    pub off0-refuses : {z : ℤ} → z ≡ r .off0 → offsetOk z ≡ false → 4 ≡ recordRefusal n list count lent (meant r)
+    unfolding recordRefusal
+    off0-refuses e h =
+        let b : offsetOk (r .off0) ≡ false = ap offsetOk (sym e) ∙ h in
+        rw (kind-passed n list count lent (r .kind) (r .entry) (offsetRefusal (meant r)) k, b)
+
+    pub off1-refuses : {y z : ℤ} → y ≡ r .off0 → offsetOk y ≡ true → z ≡ r .off1 → offsetOk z ≡ false → 4 ≡ recordRefusal n list count lent (meant r)
+    unfolding recordRefusal
+    off1-refuses d g e h =
+        let a : offsetOk (r .off0) ≡ true = ap offsetOk (sym d) ∙ g in
+        let b : offsetOk (r .off1) ≡ false = ap offsetOk (sym e) ∙ h in
+        rw (kind-passed n list count lent (r .kind) (r .entry) (offsetRefusal (meant r)) k, a, b)
+
+    pub none-refuses : {y z : ℤ} → y ≡ r .off0 → offsetOk y ≡ true → z ≡ r .off1 → offsetOk z ≡ true → 0 ≡ recordRefusal n list count lent (meant r)
+    unfolding recordRefusal
+    none-refuses d g e h =
+        let a : offsetOk (r .off0) ≡ true = ap offsetOk (sym d) ∙ g in
+        let b : offsetOk (r .off1) ≡ true = ap offsetOk (sym e) ∙ h in
+        rw (kind-passed n list count lent (r .kind) (r .entry) (offsetRefusal (meant r)) k, a, b)

@@ -1,21 +1,29 @@
 -- What holds where writing is not refused, and the first refusal of several. Assumes nothing.
-use Prim.Native.Nat.{ℕ, zero, suc, _+_, _*_, _≤_, _<_}
-use mathlib.Core.Path.{_≡_, refl, sym, _∙_, ap}
-use mathlib.Core.Bool.{Bool, true, _&&_}
+use Prim.Native.Nat.{ℕ, zero, suc, _+_, _≤_, _<_}
+use mathlib.Core.Path.{_≡_, refl, sym, _∙_}
+use mathlib.Core.Bool.{Bool, true}
 use mathlib.Core.List.{List}
 use mathlib.Core.Logic.{⊎-elim}
+use native.Mathlib.Numerals.{add-one}
 use native.Mathlib.Omega.{arith}
 use borrow.Author.Tests.{leb-true, eqb-true, le-leb, eq-eqb}
 use lib.Dec.{eqb, leb}
 use lib.ListN.{length}
+use Rattle.arith.specs.Checks.{unless}
 use Rattle.arith.proofs.Bools.{both-of}
 use Rattle.arith.proofs.CheckLaws.{passed}
 use Rattle.arith.proofs.LeastLaws.{last-or-below}
 use Rattle.depth_table.specs.Table.{tableOk}
+use Rattle.depth_table.proofs.TableLaws.{table-counts}
 use Rattle.pattern.specs.Size.{sizeOk}
+use Rattle.pattern.proofs.SizeLaws.{size-bounds}
+use Rattle.sheet.specs.Grid.{sideOk}
+use Rattle.sheet.proofs.RefusalLaws.{unless-kept}
+use Rattle.sheet.proofs.StateLaws.{side-bounds}
 use Rattle.sheet.specs.declared.Sheet.{Sheet}
 use Rattle.sheet.specs.State.{blocksOf, sidesOk, stateRefusal}
-use Rattle.record_file.specs.Writing.{Source, first, firstTo, spaceFor, writeLengthsOk, writtenRefusal, writeRefusal}
+use Rattle.record_file.proofs.MeaningLaws.{record-small}
+use Rattle.record_file.specs.Writing.{Source, Small, HeadFits, first, firstTo, spaceFor, writeLengthsOk, writtenRefusal, writeRefusal}
 
 -- ---- the first refusal of several
 
@@ -109,3 +117,81 @@ module _ (W : Source) (list : List ℕ) (count records space : ℕ) where
         p .sound,
       )
       (all-first (λ i. writtenRefusal (S .n) list count (W .record-at i)) (blocksOf S) (p .each))
+
+-- ---- the loop that looks for the first refusal
+
+pub first-start : (f : ℕ → ℕ) → 0 ≡ firstTo f 0
+unfolding firstTo
+first-start f = refl
+
+-- one that was found stays
+pub first-kept : (f : ℕ → ℕ) (i x : ℕ) → x ≡ firstTo f i → (x ≡ 0 → ⊥) → x ≡ firstTo f (i + 1)
+unfolding firstTo
+first-kept f i x e h = rw (add-one i, ← e) (turn x h)
+  where
+    turn : (x : ℕ) → (x ≡ 0 → ⊥) → x ≡ first x (f i)
+    turn zero h = absurd (h refl)
+    turn (suc x) h = refl
+
+-- none was found: the next one's is the first
+pub first-next : (f : ℕ → ℕ) (i x y : ℕ) → x ≡ firstTo f i → x ≡ 0 → y ≡ f i → y ≡ firstTo f (i + 1)
+unfolding firstTo
+first-next f i x y e z q = rw (add-one i, ← e, z) q
+
+-- ---- the refusal as the code finds it: of the state and the table, then of the records
+
+module _ (W : Source) (list : List ℕ) (count records space : ℕ) where
+  -- the refusal of the state and the table
+  abbrev pub firstRefusal : Bool → ℕ
+  firstRefusal lengths =
+      stateRefusal (W .sheet) lengths (unless (eqb (W .sheet .placed) (blocksOf (W .sheet))) 22 (unless (tableOk (W .table)) 3 0))
+
+  abbrev pub lengthsOf : Bool
+  lengthsOf = writeLengthsOk (W .sheet) (length list) count (length (W .table)) records space
+
+  pub write-first : {x : ℕ} → x ≡ firstRefusal lengthsOf → (x ≡ 0 → ⊥) → x ≡ writeRefusal W list count records space
+  unfolding writeRefusal stateRefusal
+  write-first e h =
+      e ∙ sym
+      (unless-kept (sizeOk (W .sheet .n)) 0
+      (unless-kept lengthsOf 1
+      (unless-kept (sidesOk (W .sheet)) 7
+      (unless-kept (leb (W .sheet .placed) (blocksOf (W .sheet))) 22
+      (unless-kept (eqb (W .sheet .placed) (blocksOf (W .sheet))) 21
+      (unless-kept (tableOk (W .table)) 2 (λ k. absurd (k refl)))))))
+      (λ z. h (e ∙ z)))
+
+  pub write-next :
+      firstRefusal lengthsOf ≡ 0 → writeRefusal W list count records space ≡ firstTo (λ i. writtenRefusal (W .sheet .n) list count (W .record-at i)) (blocksOf (W .sheet))
+  unfolding writeRefusal stateRefusal
+  write-next h =
+      let S = W .sheet in
+      let a = passed (sizeOk (S .n)) 0 _ h in
+      let b = passed lengthsOf 1 _ (a .1) in
+      let c = passed (sidesOk S) 7 _ (b .1) in
+      let d = passed (leb (S .placed) (blocksOf S)) 22 _ (c .1) in
+      let e = passed (eqb (S .placed) (blocksOf S)) 21 _ (d .1) in
+      let f = passed (tableOk (W .table)) 2 _ (e .1) in
+      rw (a .0, b .0, c .0, d .0, e .0, f .0)
+
+  -- then the lengths are right
+  pub first-lengths : firstRefusal lengthsOf ≡ 0 → LengthsRight (W .sheet) (length list) count (length (W .table)) records space
+  unfolding stateRefusal
+  first-lengths h =
+      let a = passed (sizeOk (W .sheet .n)) 0 _ h in
+      lengths-right (W .sheet) (length list) count (length (W .table)) records space (passed lengthsOf 1 _ (a .1) .0)
+
+  -- where nothing is refused, what the texts need
+  pub accepted-head : Accepted W list count records space → HeadFits (W .sheet) (length (W .table))
+  accepted-head p =
+      let S = W .sheet in
+      let s = both-of (sideOk (S .n) (S .width)) (sideOk (S .n) (S .height)) (p .sides) in
+      record {
+        n = size-bounds (S .n) (p .size) .1;
+        width = side-bounds (S .n) (S .width) (s .0) .1;
+        height = side-bounds (S .n) (S .height) (s .1) .1;
+        table = table-counts (W .table) (p .sound) .1;
+      }
+
+  pub accepted-small : Accepted W list count records space → (i : ℕ) → i < blocksOf (W .sheet) → Small (W .record-at i)
+  accepted-small p i h = record-small (W .sheet .n) list count true (W .record-at i) (p .lengths .few) (p .each i h)

@@ -1,12 +1,12 @@
 -- Document 01, "House file": both round trips, for every list, count, table and records. Assumes nothing.
-use Prim.Native.Nat.{ℕ, zero, suc, _+_, _*_, _≤_, _<_}
+use Prim.Native.Nat.{ℕ, _≤_, _<_}
 use mathlib.Core.Path.{_≡_, refl, sym, _∙_, ap}
-use mathlib.Core.Bool.{Bool, true, false, _&&_, _||_}
+use mathlib.Core.Bool.{Bool, true, false, _||_}
 use mathlib.Core.List.{List, []}
-use mathlib.Core.Logic.{_⊎_, inl, inr, ⊎-elim}
+use mathlib.Core.Logic.{_⊎_, ⊎-elim}
 use native.Mathlib.Omega.{arith}
 use borrow.Author.Tests.{leb-true, lt-ltb, le-leb, eq-eqb}
-use lib.Dec.{eqb, leb, ltb}
+use lib.Dec.{eqb, leb}
 use lib.ListN.{length, getD}
 use Rattle.arith.specs.Checks.{unless}
 use Rattle.arith.specs.Lists.{listOf}
@@ -18,14 +18,14 @@ use Rattle.sheet.specs.Grid.{blocks}
 use Rattle.sheet.specs.State.{stateOf, area, blocksOf}
 use Rattle.sheet.specs.Place.{textured}
 use Rattle.record_text.specs.declared.cursor.RecordFields.{RecordFields}
-use Rattle.record_text.specs.Lines.{Lined, refusedAt, read, judged}
+use Rattle.record_text.specs.Lines.{Lined, read, judged}
 use Rattle.record_text.proofs.LinesLaws.{refused-read}
 use Rattle.record_file.specs.Text.{fileText, sizeFieldsOf}
 use Rattle.record_file.specs.Reading.{File, fileOf, Aids, aidsOf, sizeMeaning, fileLines, readLengthsOk, readFile}
 use Rattle.record_file.specs.Writing.{Source, sourceOf, spaceFor, writeRefusal, writtenText}
 use Rattle.record_file.proofs.MeaningLaws.{written-sound, read-sound}
-use Rattle.record_file.proofs.FileLaws.{noRecord, FileSound, FileRead, SizeSmall, size-small, file-reads, file-wrote}
-use Rattle.record_file.proofs.RefusalLaws.{Accepted, accepted-parts, parts-accepted}
+use Rattle.record_file.proofs.FileLaws.{noRecord, FileSound, FileRead, size-small, file-reads, file-wrote}
+use Rattle.record_file.proofs.RefusalLaws.{accepted-parts, parts-accepted}
 
 -- the lengths that reading checks first
 pub record ReadLengths (samples records words count : ℕ) : Type 0 where

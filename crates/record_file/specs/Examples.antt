@@ -3,7 +3,7 @@ use Prim.Native.Nat.{ℕ}
 use mathlib.Core.Path.{_≡_, refl}
 use mathlib.Core.List.{List, [], _∷_, _++_}
 use lib.IntN.{pos, negsuc}
-use lib.ListN.{take, drop, length}
+use lib.ListN.{take, length}
 use Rattle.arith.specs.Checks.{given, refused}
 use Rattle.arith.specs.Lists.{listOf}
 use Rattle.depth_table.specs.Table.{tableOk, bytes, rising}

@@ -2,4 +2,5 @@
 pub mod Text
 pub mod Reading
 pub mod Writing
+pub mod Told
 pub mod Examples

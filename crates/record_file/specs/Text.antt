@@ -14,6 +14,10 @@ use Rattle.record_text.specs.Lines.{texts}
 abbrev pub sizeFieldsOf : ℕ → ℕ → ℕ → ℕ → SizeFields
 sizeFieldsOf n width height values = record { n = n; width = width; height = height; values = values }
 
+-- the first three lines
+unfoldable pub headText : ℕ → ℕ → ℕ → ℕ → List ℕ
+headText n width height values = sizeTitle ++ (sizeText (sizeFieldsOf n width height values) ++ depthTitle)
+
 -- the titles, n, width, height and the table count, the table values, and a record for each block in sheet order
 unfoldable pub fileText : ℕ → ℕ → ℕ → List ℕ → List RecordFields → List ℕ
 fileText n width height table records =

@@ -1,8 +1,9 @@
 -- Document 01, "House file": writing. Assumes nothing.
-use Prim.Native.Nat.{ℕ, zero, suc, _+_, _*_}
+use Prim.Native.Nat.{ℕ, zero, suc, _+_, _*_, _≤_}
 use mathlib.Core.Bool.{Bool, true, _&&_}
 use mathlib.Core.List.{List}
 use lib.Dec.{eqb, leb}
+use lib.IntN.{natAbs}
 use lib.ListN.{length}
 use lib.Seq.{sets}
 use Rattle.arith.specs.Checks.{unless, Answer, answer, lent}
@@ -41,6 +42,20 @@ spaceFor values blocks = 80 + 4 * values + 32 * blocks
 unfoldable pub writeLengthsOk : Sheet → ℕ → ℕ → ℕ → ℕ → ℕ → Bool
 writeLengthsOk S words count values records space =
     leb count words && (leb count 9999 && (leb (blocksOf S) records && leb (spaceFor values (blocksOf S)) space))
+
+-- how far the numbers of a record that is not refused go
+pub record Small (r : RecordFields) : Type 0 where
+  pub kind : r .kind ≤ 1
+  pub entry : r .entry ≤ 9998
+  pub off0 : natAbs (r .off0) ≤ 255
+  pub off1 : natAbs (r .off1) ≤ 255
+
+-- how far the numbers of the size line go
+pub record HeadFits (S : Sheet) (values : ℕ) : Type 0 where
+  pub n : S .n ≤ 8
+  pub width : S .width ≤ 128
+  pub height : S .height ≤ 128
+  pub table : values ≤ 256
 
 -- a record is written without texture, so that 21 is not given: 7, 6, 5, 4
 abbrev pub writtenRefusal : ℕ → List ℕ → ℕ → RecordFields → ℕ

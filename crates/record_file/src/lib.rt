@@ -1,1 +1,7 @@
 // The record file (document 01, "House file").
+mod checks;
+mod records;
+mod writing;
+
+pub use writing::Wrote;
+pub use writing::write;
