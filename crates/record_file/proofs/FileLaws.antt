@@ -1,6 +1,6 @@
 -- Both inverse laws of the whole text: reading gives what was printed, and what is read was printed so. Assumes nothing.
 use Prim.Native.Nat.{ℕ, _+_, _≤_, _<_, _*_}
-use mathlib.Core.Path.{_≡_, refl, ap, sym, _∙_}
+use mathlib.Core.Path.{_≡_, refl, ap, sym, subst, _∙_}
 use mathlib.Core.Bool.{true, _&&_, _||_}
 use mathlib.Core.List.{List, [], _++_, append-nil}
 use native.Mathlib.Omega.{arith}
@@ -26,7 +26,7 @@ use Rattle.record_text.proofs.ParsedLaws.{exactly-reads, exactly-wrote}
 use Rattle.record_text.proofs.LineLaws.{size-line, value-line, record-line}
 use Rattle.record_text.proofs.LinesLaws.{line-read, line-parts, lines-read, lines-parts, ended-parts, many-reads, many-wrote}
 use Rattle.record_file.specs.Text.{sizeFieldsOf, fileText}
-use Rattle.record_file.specs.Reading.{File, fileOf, Aids, sizeMeaning, valueMeaning, lowAfter, recordMeaning, unchanged, valueLines, recordLines, lastLines, bodyLines, fileLines}
+use Rattle.record_file.specs.Reading.{File, fileOf, Aids, sizeMeaning, valueMeaning, lowAfter, recordMeaning, unchanged, valueLines, recordLines, lastLines, headLines, frontLines, blocksIn, fileLines}
 use Rattle.record_file.proofs.MeaningLaws.{SoundValue, values-sound, sound-values, each-made, each-at, record-small, small-printable}
 
 -- the record that stands where there is none
@@ -92,24 +92,32 @@ module _ (A : Aids) (F : File) (few : A .count ≤ 9999) (ok : FileSound A F) wh
       each-made (λ r. RecordPrintable r × (recordMeaning (F .n) A tt r ≡ 0)) unchanged noRecord (F .records)
       (λ i h. let m = ok .each i h in (small-printable _ (record-small (F .n) (A .list) (A .count) _ _ few m), m))
 
-  last-read : lastLines A header (F .table) (texts recordText (F .records)) ≡ read F []
+  last-read : lastLines (F .n) A (blocksIn header) (5 + length (F .table)) (texts recordText (F .records)) ≡ read (F .records) []
   last-read =
-      ap (λ (s : List ℕ). lastLines A header (F .table) s) (sym (append-nil (texts recordText (F .records))))
-      ∙ lines-read _ (many-reads recordLine (recordMeaning (F .n) A) unchanged record-line (blocks (F .n) (F .width) (F .height)) (5 + length (F .table)) tt (F .records) [] (ok .whole) sound-records)
+      ap (λ (s : List ℕ). lastLines (F .n) A (blocksIn header) (5 + length (F .table)) s) (sym (append-nil (texts recordText (F .records))))
+      ∙ lines-read _
+      (many-reads recordLine (recordMeaning (F .n) A) unchanged record-line (blocksIn header) (5 + length (F .table)) tt (F .records) [] (ok .whole) sound-records)
 
-  body-read : bodyLines A header (texts valueText (F .table) ++ (recordTitle ++ texts recordText (F .records))) ≡ read F []
-  body-read =
-      lines-read _ (many-reads valueLine valueMeaning lowAfter value-line (length (F .table)) 4 0 (F .table) _ refl (values-sound (F .table) 0 (ok .values) (ok .rises)))
-      ∙ line-read (4 + length (F .table)) noMeaning _ (exactly-reads recordTitle _) refl
-      ∙ last-read
+  head-read : (s : List ℕ) → headLines (length (A .texture)) (sizeTitle ++ (sizeText header ++ (depthTitle ++ s))) ≡ read header s
+  head-read s =
+      line-read 1 noMeaning _ (exactly-reads sizeTitle _) refl
+      ∙ line-read 2 (sizeMeaning (length (A .texture))) _
+      (size-line .reads header _ (size-printable header (size-small (length (A .texture)) header (ok .size)))) (ok .size)
+      ∙ line-read 3 noMeaning _ (exactly-reads depthTitle s) refl
+
+  front-read :
+      (s : List ℕ)
+      → frontLines (length (A .texture)) (sizeTitle ++ (sizeText header ++ (depthTitle ++ (texts valueText (F .table) ++ (recordTitle ++ s))))) ≡ read (header, F .table) s
+  front-read s =
+      lines-read _ (head-read (texts valueText (F .table) ++ (recordTitle ++ s)))
+      ∙ lines-read _
+      (many-reads valueLine valueMeaning lowAfter value-line (length (F .table)) 4 0 (F .table) (recordTitle ++ s) refl
+      (values-sound (F .table) 0 (ok .values) (ok .rises)))
+      ∙ line-read (4 + length (F .table)) noMeaning _ (exactly-reads recordTitle s) refl
 
   pub file-reads : fileLines A (textOf F) ≡ read F []
   unfolding fileLines fileText
-  file-reads =
-      line-read 1 noMeaning _ (exactly-reads sizeTitle _) refl
-      ∙ line-read 2 (sizeMeaning (length (A .texture))) _ (size-line .reads header _ (size-printable header (size-small (length (A .texture)) header (ok .size)))) (ok .size)
-      ∙ line-read 3 noMeaning _ (exactly-reads depthTitle _) refl
-      ∙ body-read
+  file-reads = lines-read _ (front-read (texts recordText (F .records))) ∙ lines-read _ last-read
 
 -- ---- what is read was printed so
 
@@ -146,26 +154,72 @@ pub record FileRead (A : Aids) (F : File) (s t : List ℕ) : Type 0 where
   pub nothing-left : t ≡ []
   pub sound : FileSound A F
 
+-- two readings of the same
+same-read : {A : Type 0} {a b : A} {s t : List ℕ} → read a s ≡ read b t → (a ≡ b) × (s ≡ t)
+same-read e = (cc, cc)
+
+-- the parts of the lines before the records
+record FrontParts (texture : ℕ) (s : List ℕ) (z : SizeFields) (table t : List ℕ) : Type 0 where
+  pub s1 : List ℕ
+  pub s2 : List ℕ
+  pub s3 : List ℕ
+  pub s4 : List ℕ
+  pub e1 : s ≡ sizeTitle ++ s1
+  pub e2 : s1 ≡ sizeText z ++ s2
+  pub e3 : s2 ≡ depthTitle ++ s3
+  pub e4 : s3 ≡ texts valueText table ++ s4
+  pub e5 : s4 ≡ recordTitle ++ t
+  pub size : sizeMeaning texture z ≡ 0
+  pub count : length table ≡ z .values
+  pub each : Each SoundValue lowAfter 0 table
+
+front-parts : (texture : ℕ) (s : List ℕ) (z : SizeFields) (table t : List ℕ) → frontLines texture s ≡ read (z, table) t → FrontParts texture s z table t
+front-parts texture s z table t q =
+    let h = lines-parts _ (headLines texture s) (z, table) t q in
+    let p1 = line-parts 1 noMeaning _ (exactly sizeTitle s) (h .value) (h .rest) (h .first) in
+    let p2 = line-parts 2 (sizeMeaning texture) _ (sizeLine (p1 .rest)) (h .value) (h .rest) (p1 .then) in
+    let p3 = line-parts 3 noMeaning _ (exactly depthTitle (p2 .rest)) (h .value) (h .rest) (p2 .then) in
+    let h′ = same-read (p3 .then) in
+    let p4 = lines-parts _ (valueLines (h .value .values) 4 (h .rest)) (z, table) t (h .then) in
+    let p5 = line-parts (4 + h .value .values) noMeaning _ (exactly recordTitle (p4 .rest)) (z, table) t (p4 .then) in
+    let z′ = same-read (p5 .then) in
+    let w2 = size-line .wrote (p2 .value) (p1 .rest) (p2 .rest) (p2 .form) in
+    let w4 = many-wrote valueLine valueMeaning lowAfter value-line (h .value .values) 4 0 (p4 .value) (h .rest) (p4 .rest) (p4 .first) in
+    let ez : p2 .value ≡ z = h′ .0 ∙ ap (λ (f : SizeFields × List ℕ). f .0) (z′ .0) in
+    let et : p4 .value ≡ table = ap (λ (f : SizeFields × List ℕ). f .1) (z′ .0) in
+    record {
+      s1 = p1 .rest;
+      s2 = p2 .rest;
+      s3 = p3 .rest;
+      s4 = p4 .rest;
+      e1 = exactly-wrote sizeTitle s (p1 .rest) (p1 .value) (p1 .form);
+      e2 = w2 .0 ∙ ap (λ (y : SizeFields). sizeText y ++ p2 .rest) ez;
+      e3 = exactly-wrote depthTitle (p2 .rest) (p3 .rest) (p3 .value) (p3 .form);
+      e4 = h′ .1 ∙ w4 .0 ∙ ap (λ (y : List ℕ). texts valueText y ++ p4 .rest) et;
+      e5 = exactly-wrote recordTitle (p4 .rest) (p5 .rest) (p5 .value) (p5 .form) ∙ ap (λ (y : List ℕ). recordTitle ++ y) (z′ .1);
+      size = ap (sizeMeaning texture) (sym ez) ∙ p2 .sound;
+      count = ap length (sym et) ∙ w4 .1 ∙ ap (λ (f : SizeFields × List ℕ). f .0 .values) (z′ .0);
+      each = subst (Each SoundValue lowAfter 0) et (w4 .2);
+    }
+
 pub file-wrote : (A : Aids) (F : File) (s t : List ℕ) → fileLines A s ≡ read F t → FileRead A F s t
 unfolding fileLines
 file-wrote A F s t q =
-    let p1 = line-parts 1 noMeaning _ (exactly sizeTitle s) F t q in
-    let p2 = line-parts 2 (sizeMeaning (length (A .texture))) _ (sizeLine (p1 .rest)) F t (p1 .then) in
-    let p3 = line-parts 3 noMeaning _ (exactly depthTitle (p2 .rest)) F t (p2 .then) in
-    let z = p2 .value in
-    let m = blocks (z .n) (z .width) (z .height) in
-    let p4 = lines-parts _ (valueLines (z .values) 4 (p3 .rest)) F t (p3 .then) in
-    let p5 = line-parts (4 + z .values) noMeaning _ (exactly recordTitle (p4 .rest)) F t (p4 .then) in
-    let p6 = lines-parts _ (recordLines (z .n) A m (5 + z .values) (p5 .rest)) F t (p5 .then) in
-    let p7 = ended-parts (5 + z .values + m) (fileOf (z .n) (z .width) (z .height) (p4 .value) (p6 .value)) F (p6 .rest) t (p6 .then) in
-    let w2 = size-line .wrote z (p1 .rest) (p2 .rest) (p2 .form) in
-    let w4 = many-wrote valueLine valueMeaning lowAfter value-line (z .values) 4 0 (p4 .value) (p3 .rest) (p4 .rest) (p4 .first) in
-    let w6 = many-wrote recordLine (recordMeaning (z .n) A) unchanged record-line m (5 + z .values) tt (p6 .value) (p5 .rest) (p6 .rest) (p6 .first) in
+    let f = lines-parts _ (frontLines (length (A .texture)) s) F t q in
+    let z = f .value .0 in
+    let table = f .value .1 in
+    let m = blocksIn z in
+    let p = front-parts (length (A .texture)) s z table (f .rest) (f .first) in
+    let l = lines-parts _ (lastLines (z .n) A m (5 + z .values) (f .rest)) F t (f .then) in
+    let r = lines-parts _ (recordLines (z .n) A m (5 + z .values) (f .rest)) (l .value) (l .rest) (l .first) in
+    let e = ended-parts (5 + z .values + m) (r .value) (l .value) (r .rest) (l .rest) (r .then) in
+    let g = same-read (l .then) in
+    let eF : fileOf (z .n) (z .width) (z .height) table (r .value) ≡ F = ap (fileOf (z .n) (z .width) (z .height) table) (e .0) ∙ g .0 in
+    let w = many-wrote recordLine (recordMeaning (z .n) A) unchanged record-line m (5 + z .values) tt (r .value) (f .rest) (r .rest) (r .first) in
     record {
       text =
-          join A F z (p4 .value) (p6 .value) s (p1 .rest) (p2 .rest) (p3 .rest) (p4 .rest) (p5 .rest) (p6 .rest)
-          (exactly-wrote sizeTitle s (p1 .rest) (p1 .value) (p1 .form)) (w2 .0) (exactly-wrote depthTitle (p2 .rest) (p3 .rest) (p3 .value) (p3 .form))
-          (w4 .0) (exactly-wrote recordTitle (p4 .rest) (p5 .rest) (p5 .value) (p5 .form)) (w6 .0) (p7 .1) (w4 .1) (p7 .0);
-      nothing-left = p7 .2;
-      sound = sound-as A F z (p4 .value) (p6 .value) (p2 .sound) (w4 .1) (w4 .2) (w6 .1) (w6 .2) (p7 .0);
+          join A F z table (r .value) s (p .s1) (p .s2) (p .s3) (p .s4) (f .rest) (r .rest) (p .e1) (p .e2) (p .e3) (p .e4) (p .e5) (w .0) (e .1)
+          (p .count) eF;
+      nothing-left = sym (g .1) ∙ e .2;
+      sound = sound-as A F z table (r .value) (p .size) (p .count) (p .each) (w .1) (w .2) eF;
     }

@@ -4,4 +4,5 @@ pub mod FileLaws
 pub mod RefusalLaws
 pub mod SpaceLaws
 pub mod WriteLaws
+pub mod ReadLaws
 pub mod RoundTrip

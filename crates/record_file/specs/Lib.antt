@@ -3,4 +3,5 @@ pub mod Text
 pub mod Reading
 pub mod Writing
 pub mod Told
+pub mod Stored
 pub mod Examples

@@ -14,7 +14,7 @@ use Rattle.record_text.specs.declared.cursor.SizeFields.{SizeFields}
 use Rattle.record_text.specs.declared.cursor.RecordFields.{RecordFields}
 use Rattle.record_text.specs.Parsed.{exactly}
 use Rattle.record_text.specs.Line.{sizeTitle, depthTitle, recordTitle, sizeLine, valueLine, recordLine}
-use Rattle.record_text.specs.Lines.{Lined, judged, line, linesThen, noMeaning, manyLines, ended}
+use Rattle.record_text.specs.Lines.{Lined, read, judged, line, linesThen, noMeaning, manyLines, ended}
 use Rattle.record_file.specs.Text.{meant}
 
 -- what a file holds
@@ -53,8 +53,11 @@ abbrev pub lowAfter : ℕ → ℕ → ℕ
 lowAfter low v = suc v
 
 -- the meaning of a record's line for blocks of size n: 7, 21, 6, 5, 4; no line depends on the ones before it
+abbrev pub recordMeaningBy : ℕ → List ℕ → ℕ → Bool → Unit {0} → RecordFields → ℕ
+recordMeaningBy n list count lent c r = recordRefusal n list count lent (meant r)
+
 abbrev pub recordMeaning : ℕ → Aids → Unit {0} → RecordFields → ℕ
-recordMeaning n A c r = recordRefusal n (A .list) (A .count) (textured (A .texture)) (meant r)
+recordMeaning n A = recordMeaningBy n (A .list) (A .count) (textured (A .texture))
 
 abbrev pub unchanged : Unit {0} → RecordFields → Unit {0}
 unchanged c r = c
@@ -63,29 +66,41 @@ unchanged c r = c
 abbrev pub valueLines : ℕ → ℕ → List ℕ → Lined (List ℕ)
 valueLines m k s = manyLines valueLine valueMeaning lowAfter m k 0 s
 
+abbrev pub recordLinesBy : ℕ → List ℕ → ℕ → Bool → ℕ → ℕ → List ℕ → Lined (List RecordFields)
+recordLinesBy n list count lent m k s = manyLines recordLine (recordMeaningBy n list count lent) unchanged m k tt s
+
 abbrev pub recordLines : ℕ → Aids → ℕ → ℕ → List ℕ → Lined (List RecordFields)
-recordLines n A m k s = manyLines recordLine (recordMeaning n A) unchanged m k tt s
+recordLines n A = recordLinesBy n (A .list) (A .count) (textured (A .texture))
 
--- the records, and nothing after them: what is left is the line after the last
-abbrev pub lastLines : Aids → SizeFields → List ℕ → List ℕ → Lined File
-lastLines A z table s =
-    linesThen (recordLines (z .n) A (blocks (z .n) (z .width) (z .height)) (5 + z .values) s) λ records s.
-    ended (5 + z .values + blocks (z .n) (z .width) (z .height)) (fileOf (z .n) (z .width) (z .height) table records) s
+-- m records from line k on, and nothing after them: what is left is the line after the last
+abbrev pub lastLines : ℕ → Aids → ℕ → ℕ → List ℕ → Lined (List RecordFields)
+lastLines n A m k s = linesThen (recordLines n A m k s) λ records s. ended (k + m) records s
 
--- the lines after the third: the table values, a title and the records
-abbrev pub bodyLines : Aids → SizeFields → List ℕ → Lined File
-bodyLines A z s =
+-- the first three lines
+abbrev pub headLines : ℕ → List ℕ → Lined SizeFields
+headLines texture s =
+    line 1 (exactly sizeTitle s) noMeaning λ _ s.
+    line 2 (sizeLine s) (sizeMeaning texture) λ z s.
+    line 3 (exactly depthTitle s) noMeaning λ _ s.
+    read z s
+
+-- the lines before the records: the size, the table values and a title
+abbrev pub frontLines : ℕ → List ℕ → Lined (SizeFields × List ℕ)
+frontLines texture s =
+    linesThen (headLines texture s) λ z s.
     linesThen (valueLines (z .values) 4 s) λ table s.
     line (4 + z .values) (exactly recordTitle s) noMeaning λ _ s.
-    lastLines A z table s
+    read (z, table) s
+
+abbrev pub blocksIn : SizeFields → ℕ
+blocksIn z = blocks (z .n) (z .width) (z .height)
 
 -- the whole text
 unfoldable pub fileLines : Aids → List ℕ → Lined File
 fileLines A s =
-    line 1 (exactly sizeTitle s) noMeaning λ _ s.
-    line 2 (sizeLine s) (sizeMeaning (length (A .texture))) λ z s.
-    line 3 (exactly depthTitle s) noMeaning λ _ s.
-    bodyLines A z s
+    linesThen (frontLines (length (A .texture)) s) λ f s.
+    linesThen (lastLines (f .0 .n) A (blocksIn (f .0)) (5 + f .0 .values) s) λ records s.
+    read (fileOf (f .0 .n) (f .0 .width) (f .0 .height) (f .1) records) s
 
 -- reading is lent 16,384 samples and 1,024 records, and a count that the lent words and 9,999 allow
 unfoldable pub readLengthsOk : ℕ → ℕ → ℕ → ℕ → Bool

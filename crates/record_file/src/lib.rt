@@ -1,5 +1,7 @@
 // The record file (document 01, "House file").
 mod checks;
+mod lines;
+mod loops;
 mod records;
 mod writing;
 
