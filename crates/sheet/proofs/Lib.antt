@@ -10,3 +10,4 @@ pub mod CallLaws
 pub mod MeaningLaws
 pub mod PlaceLaws
 pub mod ComposeLaws
+pub mod TurnLaws

@@ -14,7 +14,7 @@ use Rattle.depth_table.specs.Table.{tableOk}
 use Rattle.pattern.specs.Size.{sizeOk}
 use Rattle.pattern.proofs.SizeLaws.{size-bounds}
 use Rattle.sheet.specs.Grid.{longest, sideOk, Inside}
-use Rattle.sheet.specs.State.{area, blocksOf, nextX, nextY, sidesOk, lengthsOk, stateRefusal, openRefusal, Open}
+use Rattle.sheet.specs.State.{area, blocksOf, nextX, nextY, sidesOk, lengthsOk, stateRefusal, openRefusal, Open, Lengths}
 use Rattle.sheet.specs.declared.Sheet.{Sheet}
 use Rattle.sheet.proofs.GridLaws.{per-pos, block-inside, rows-few}
 use Rattle.sheet.proofs.RefusalLaws.{unless-kept}
@@ -51,13 +51,6 @@ next-row S o =
     omega (arith, rows-few p, area-few S o)
 
 -- ---- the checks of a state
-
--- the lengths are right
-pub record Lengths (S : Sheet) (samples words count texture : ℕ) : Type 0 where
-  pub whole : samples ≡ area S
-  pub optional : (texture ≡ 0) ⊎ (texture ≡ area S)
-  pub inside : count ≤ words
-  pub few : count ≤ 9999
 
 pub lengths-are :
     (S : Sheet) (samples words count texture : ℕ) → lengthsOk S samples words count texture ≡ true → Lengths S samples words count texture

@@ -4,11 +4,11 @@ ghost use mathlib.Core.Bool.{cond};
 ghost use mathlib.Core.Logic.{_⊎_};
 ghost use Prim.Native.Nat.{_*_, _<_, _≤_, min};
 ghost use lib.ListN.{length, set, take};
-ghost use Rattle.depth_table.specs.Table.{tableOk};
+ghost use Rattle.arith.specs.Checks.{answer};
 ghost use Rattle.choice.specs.Answer.{chooseAnswer, chooseTold, recordTold};
-ghost use Rattle.sheet.specs.State.{after, area, lengthsOk, Open};
+ghost use Rattle.sheet.specs.State.{after, area, finished, Open};
 ghost use Rattle.sheet.specs.Place.{materialOf, textured, nextTexture, placedSamples, placeRefusal};
-ghost use Rattle.sheet.specs.Compose.{taskOf, composeCase, recordsLent, composeLengthsOk, composeAnswer, composeAfter, composeField};
+ghost use Rattle.sheet.specs.Compose.{missing, taskOf, choiceRefusal, Ready, Leaves, composeCase, recordsLent, composeLengthsOk, composeAnswer, composeAfter, composeField};
 ghost use Rattle.sheet.specs.Told.{composeTold};
 use crate::Composed;
 use crate::Placed;
@@ -148,5 +148,40 @@ impl Sheet {
             Placed::Next(state) => state,
             Placed::Refused(_) => self,
         }
+    }
+
+    // Chooses, places and records every missing block in turn. The choice for the first block is refused where any would be.
+    fn compose_missing(
+        self,
+        samples: &mut [u8],
+        original: &[u8],
+        list: &[u64],
+        count: usize,
+        table: &[u8],
+        reach: u32,
+        texture: &[u8],
+        kinds: &mut [u32],
+        entries: &mut [u32],
+        offs0: &mut [i32],
+        offs1: &mut [i32],
+    ) -> Composed
+        requires { ⌜ Ready self (taskOf (materialOf (now list) count (now table) (now texture)) (now original) reach) (length (now samples)) (length (now kinds)) (length (now entries)) (length (now offs0)) (length (now offs1)) ⌝ }
+        ensures answered { λ r. ⌜ composeTold r ≡ answer (choiceRefusal self (taskOf (materialOf (now (list .entry)) count (now (table .entry)) (now (texture .entry))) (now (original .entry)) reach)) (finished self, missing self) ⌝ }
+        ensures left { λ r. ⌜ Leaves (choiceRefusal self (taskOf (materialOf (now (list .entry)) count (now (table .entry)) (now (texture .entry))) (now (original .entry)) reach)) self (taskOf (materialOf (now (list .entry)) count (now (table .entry)) (now (texture .entry))) (now (original .entry)) reach) (now (samples .entry)) (now (kinds .entry)) (now (entries .entry)) (now (offs0 .entry)) (now (offs1 .entry)) (now (samples .exit)) (now (kinds .exit)) (now (entries .exit)) (now (offs0 .exit)) (now (offs1 .exit)) ⌝ }
+    {
+        let missing = (self.blocks() - self.placed as u64) as usize;
+        let mut state = self;
+        for k in 0..missing {
+            match state.choose_next(samples, original, list, count, table, reach, texture) {
+                Choice::Chosen(best) => {
+                    state = state.place_next(samples, list, count, table, texture, best);
+                    store(kinds, entries, offs0, offs1, k, best);
+                }
+                Choice::Refused(number) => {
+                    return Composed::Refused(number);
+                }
+            }
+        }
+        Composed::Finished(state, missing)
     }
 }
