@@ -11,3 +11,4 @@ pub mod MeaningLaws
 pub mod PlaceLaws
 pub mod ComposeLaws
 pub mod TurnLaws
+pub mod EndLaws

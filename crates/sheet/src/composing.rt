@@ -42,6 +42,13 @@ fn store(
     offs1[at] = off1;
 }
 
+// As many records are lent as the shortest of the four slices has.
+fn records_lent(kinds: usize, entries: usize, offs0: usize, offs1: usize) -> usize
+    ensures { λ r. ⌜ r ≡ recordsLent kinds entries offs0 offs1 ⌝ }
+{
+    lesser(kinds, lesser(entries, lesser(offs0, offs1)))
+}
+
 impl Sheet {
     // Whether what is lent to composing fits the sheet.
     fn compose_lengths_ok(
@@ -183,5 +190,56 @@ impl Sheet {
             }
         }
         Composed::Finished(state, missing)
+    }
+
+    // Chooses and places every block still missing, in sheet order, and writes their records from the first lent one on. Answers the
+    // finished state and how many records were written, or refuses with 1, 2, 8, 23, 20, 3, 5, 4 or 10 and alters nothing.
+    pub fn compose(
+        self,
+        samples: &mut [u8],
+        original: &[u8],
+        list: &[u64],
+        count: usize,
+        table: &[u8],
+        reach: u32,
+        texture: &[u8],
+        kinds: &mut [u32],
+        entries: &mut [u32],
+        offs0: &mut [i32],
+        offs1: &mut [i32],
+    ) -> Composed
+        ensures answered { λ r. ⌜ composeTold r ≡ composeAnswer self (now (samples .entry)) (taskOf (materialOf (now (list .entry)) count (now (table .entry)) (now (texture .entry))) (now (original .entry)) reach) (recordsLent (length (now (kinds .entry))) (length (now (entries .entry))) (length (now (offs0 .entry))) (length (now (offs1 .entry)))) ⌝ }
+        ensures left { λ r. ⌜ now (samples .exit) ≡ composeAfter self (now (samples .entry)) (taskOf (materialOf (now (list .entry)) count (now (table .entry)) (now (texture .entry))) (now (original .entry)) reach) (recordsLent (length (now (kinds .entry))) (length (now (entries .entry))) (length (now (offs0 .entry))) (length (now (offs1 .entry)))) ⌝ }
+        ensures kind { λ r. ⌜ now (kinds .exit) ≡ composeField (λ x. x .kind) self (now (samples .entry)) (taskOf (materialOf (now (list .entry)) count (now (table .entry)) (now (texture .entry))) (now (original .entry)) reach) (recordsLent (length (now (kinds .entry))) (length (now (entries .entry))) (length (now (offs0 .entry))) (length (now (offs1 .entry)))) (now (kinds .entry)) ⌝ }
+        ensures entry { λ r. ⌜ now (entries .exit) ≡ composeField (λ x. x .entry) self (now (samples .entry)) (taskOf (materialOf (now (list .entry)) count (now (table .entry)) (now (texture .entry))) (now (original .entry)) reach) (recordsLent (length (now (kinds .entry))) (length (now (entries .entry))) (length (now (offs0 .entry))) (length (now (offs1 .entry)))) (now (entries .entry)) ⌝ }
+        ensures first { λ r. ⌜ now (offs0 .exit) ≡ composeField (λ x. x .off0) self (now (samples .entry)) (taskOf (materialOf (now (list .entry)) count (now (table .entry)) (now (texture .entry))) (now (original .entry)) reach) (recordsLent (length (now (kinds .entry))) (length (now (entries .entry))) (length (now (offs0 .entry))) (length (now (offs1 .entry)))) (now (offs0 .entry)) ⌝ }
+        ensures second { λ r. ⌜ now (offs1 .exit) ≡ composeField (λ x. x .off1) self (now (samples .entry)) (taskOf (materialOf (now (list .entry)) count (now (table .entry)) (now (texture .entry))) (now (original .entry)) reach) (recordsLent (length (now (kinds .entry))) (length (now (entries .entry))) (length (now (offs0 .entry))) (length (now (offs1 .entry)))) (now (offs1 .entry)) ⌝ }
+    {
+        let records = records_lent(kinds.len(), entries.len(), offs0.len(), offs1.len());
+        let lengths = self.compose_lengths_ok(
+            samples.len(),
+            list.len(),
+            count,
+            texture.len(),
+            original.len(),
+            records,
+        );
+        let refusal = self.open_refusal(lengths, table);
+        if refusal != 0 {
+            return Composed::Refused(refusal);
+        }
+        self.compose_missing(
+            samples,
+            original,
+            list,
+            count,
+            table,
+            reach,
+            texture,
+            kinds,
+            entries,
+            offs0,
+            offs1,
+        )
     }
 }
