@@ -10,6 +10,9 @@ pub mod StateLaws
 pub mod CallLaws
 pub mod MeaningLaws
 pub mod PlaceLaws
+pub mod OtherLaws
 pub mod ComposeLaws
 pub mod TurnLaws
 pub mod EndLaws
+pub mod InTurnLaws
+pub mod ComposedLaws
