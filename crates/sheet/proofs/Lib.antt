@@ -16,3 +16,4 @@ pub mod TurnLaws
 pub mod EndLaws
 pub mod InTurnLaws
 pub mod ComposedLaws
+pub mod FinishedLaws
