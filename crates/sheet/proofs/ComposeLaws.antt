@@ -25,12 +25,12 @@ use Rattle.choice.proofs.AcceptLaws.{words-at, accepted}
 use Rattle.choice.proofs.LeastLaws.{chosen-least}
 use Rattle.sheet.specs.Neighbours.{neighbours, neighboursAt}
 use Rattle.sheet.specs.Samples.{cut}
-use Rattle.sheet.specs.State.{after, area, blocksOf, nextX, nextY, lengthsOk, stateRefusal, openRefusal, Open}
+use Rattle.sheet.specs.State.{after, area, blocksOf, nextX, nextY, lengthsOk, stateRefusal, openRefusal, Open, Lengths}
 use Rattle.sheet.specs.Meaning.{kindRefusal, offsetRefusal, recordRefusal}
 use Rattle.sheet.specs.Place.{Material, textured, nextTexture, placeRefusal}
 use Rattle.sheet.specs.Compose.{missing, Task, composeCase, chosenNext, choiceRefusal}
 use Rattle.sheet.specs.declared.Sheet.{Sheet}
-use Rattle.sheet.proofs.StateLaws.{Lengths, lengths-do, open-none}
+use Rattle.sheet.proofs.StateLaws.{lengths-do, open-none}
 use Rattle.sheet.proofs.MeaningLaws.{kind-zero, kind-one}
 
 -- ---- lengths

@@ -17,6 +17,7 @@ use Rattle.sheet.specs.State.{after, nextX, nextY, lengthsOk, openRefusa
 use Rattle.sheet.specs.Meaning.{kindRefusal, offsetRefusal, recordRefusal}
 use Rattle.sheet.specs.Place.{Material, textured, nextCase, nextWord, placedSamples, Predictable, placeRefusal, placeAnswer, placeAfter}
 use Rattle.sheet.specs.declared.Sheet.{Sheet}
+use Rattle.sheet.proofs.SampleLaws.{length-written}
 use Rattle.sheet.proofs.StateLaws.{open-kept, open-passed, opened}
 use Rattle.sheet.proofs.MeaningLaws.{kind-kept, kind-passed, word-fits}
 
@@ -26,6 +27,11 @@ pub next-word :
     → nextWord S (M .list) (M .texture) kind entry ≡ patternBy (nextCase S M original reach s) kind entry
 next-word S original reach s M zero entry = refl
 next-word S original reach s M (suc kind) entry = refl
+
+-- placing keeps the number of samples
+pub length-placed : (S : Sheet) (M : Material) (s : List ℕ) (r : Record) → length (placedSamples S M s r) ≡ length s
+unfolding placedSamples
+length-placed S M s r = length-written _ _ _ _ _ s
 
 module _ (S : Sheet) (s : List ℕ) (M : Material) (r : Record) where
   pub place-refused :

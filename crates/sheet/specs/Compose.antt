@@ -1,17 +1,19 @@
 -- Document 01, "Sheet": composing, which chooses and places every block still missing. Assumes nothing.
-use Prim.Native.Nat.{ℕ, zero, suc, _-_, min}
-use mathlib.Core.Bool.{Bool, _&&_, _||_}
+use Prim.Native.Nat.{ℕ, zero, suc, _-_, _≤_, min}
+use mathlib.Core.Path.{_≡_}
+use mathlib.Core.Bool.{Bool, true, _&&_, _||_}
 use mathlib.Core.List.{List, _++_}
 use lib.Dec.{eqb, leb, ltb}
 use lib.IntN.{ℤ}
 use lib.ListN.{length, drop}
 use Rattle.arith.specs.Checks.{unless, Answer, answer, lent}
 use Rattle.arith.specs.Lists.{listOf}
+use Rattle.depth_table.specs.Table.{tableOk}
 use Rattle.choice.specs.Record.{Case, Record}
 use Rattle.choice.specs.Search.{chosen}
 use Rattle.choice.specs.Answer.{wordsOk}
 use Rattle.sheet.specs.Samples.{cut}
-use Rattle.sheet.specs.State.{after, area, blocksOf, finished, nextX, nextY, lengthsOk, openRefusal}
+use Rattle.sheet.specs.State.{after, area, blocksOf, finished, nextX, nextY, lengthsOk, openRefusal, Open, Lengths}
 use Rattle.sheet.specs.Place.{Material, textured, nextCase, placedSamples}
 use Rattle.sheet.specs.declared.Sheet.{Sheet}
 
@@ -51,6 +53,22 @@ over m f old = listOf f m ++ drop m old
 
 -- ---- the call
 
+-- the samples and a field of the records afterwards, by what the checks say: a refusal alters nothing, and the first block placed takes
+-- the first record
+abbrev pub samplesBy : ℕ → Sheet → List ℕ → Task → List ℕ
+samplesBy refusal S s T = lent refusal (composedTo S T s (missing S)) s
+
+abbrev pub fieldBy : {A : Type 0} → ℕ → (Record → A) → Sheet → List ℕ → Task → List A → List A
+fieldBy refusal field S s T old = lent refusal (over (missing S) (λ k. field (composedRecord S T s k)) old) old
+
+-- what stands in the lent slices afterwards (the names that end in 1), from what stood there before
+pub record Leaves (refusal : ℕ) (S : Sheet) (T : Task) (samples0 kinds0 entries0 : List ℕ) (first0 second0 : List ℤ) (samples1 kinds1 entries1 : List ℕ) (first1 second1 : List ℤ) : Type 0 where
+  pub samples-are : samples1 ≡ samplesBy refusal S samples0 T
+  pub kinds-are : kinds1 ≡ fieldBy refusal (λ r. r .kind) S samples0 T kinds0
+  pub entries-are : entries1 ≡ fieldBy refusal (λ r. r .entry) S samples0 T entries0
+  pub first-are : first1 ≡ fieldBy refusal (λ r. r .off0) S samples0 T first0
+  pub second-are : second1 ≡ fieldBy refusal (λ r. r .off1) S samples0 T second0
+
 -- as many records are lent as the shortest of the four slices has
 abbrev pub recordsLent : ℕ → ℕ → ℕ → ℕ → ℕ
 recordsLent kinds entries offs0 offs1 = min kinds (min entries (min offs0 offs1))
@@ -67,6 +85,17 @@ choiceRefusal S T =
     (unless (leb (T .reach) 255) 4
     (unless (ltb 0 (T .material .count) || textured (T .material .texture)) 10 0))
 
+-- what the checks before those leave: a block to place, lengths and count, the table, and room for a record of each missing block
+pub record Ready (S : Sheet) (T : Task) (samples kinds entries offs0 offs1 : ℕ) : Type 0 where
+  pub is-open : Open S
+  pub lengths : Lengths S samples (length (T .material .list)) (T .material .count) (length (T .material .texture))
+  pub same : length (T .original) ≡ area S
+  pub sound : tableOk (T .material .table) ≡ true
+  pub kinds-room : missing S ≤ kinds
+  pub entries-room : missing S ≤ entries
+  pub offs0-room : missing S ≤ offs0
+  pub offs1-room : missing S ≤ offs1
+
 -- 1, 2, 8, 23, 20, 3, then 5, 4, 10; samples and records are the lengths of what is lent
 unfoldable pub composeRefusal : Sheet → ℕ → Task → ℕ → ℕ
 composeRefusal S samples T records =
@@ -81,9 +110,8 @@ composeAnswer S s T records = answer (composeRefusal S (length s) T records) (fi
 
 -- the lent samples afterwards
 unfoldable pub composeAfter : Sheet → List ℕ → Task → ℕ → List ℕ
-composeAfter S s T records = lent (composeRefusal S (length s) T records) (composedTo S T s (missing S)) s
+composeAfter S s T records = samplesBy (composeRefusal S (length s) T records) S s T
 
--- a field of the lent records afterwards: the first block placed takes the first record
+-- a field of the lent records afterwards
 unfoldable pub composeField : {A : Type 0} → (Record → A) → Sheet → List ℕ → Task → ℕ → List A → List A
-composeField field S s T records old =
-    lent (composeRefusal S (length s) T records) (over (missing S) (λ k. field (composedRecord S T s k)) old) old
+composeField field S s T records old = fieldBy (composeRefusal S (length s) T records) field S s T old

@@ -3,6 +3,7 @@ use Prim.Native.Nat.{ℕ, _+_, _*_, _≤_, _<_}
 use mathlib.Core.Path.{_≡_}
 use mathlib.Core.Bool.{Bool, true, _&&_, _||_}
 use mathlib.Core.List.{List}
+use mathlib.Core.Logic.{_⊎_}
 use lib.Dec.{eqb, leb, ltb}
 use Rattle.arith.specs.Checks.{unless, Answer, answer}
 use Rattle.depth_table.specs.Table.{tableOk}
@@ -79,3 +80,10 @@ pub record Open (S : Sheet) : Type 0 where
   pub narrow : S .width ≤ longest
   pub short : S .height ≤ longest
   pub missing : S .placed < blocksOf S
+
+-- what `lengthsOk` says
+pub record Lengths (S : Sheet) (samples words count texture : ℕ) : Type 0 where
+  pub whole : samples ≡ area S
+  pub optional : (texture ≡ 0) ⊎ (texture ≡ area S)
+  pub inside : count ≤ words
+  pub few : count ≤ 9999

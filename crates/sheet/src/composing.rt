@@ -4,11 +4,11 @@ ghost use mathlib.Core.Bool.{cond};
 ghost use mathlib.Core.Logic.{_⊎_};
 ghost use Prim.Native.Nat.{_*_, _<_, _≤_, min};
 ghost use lib.ListN.{length, set, take};
-ghost use Rattle.depth_table.specs.Table.{tableOk};
+ghost use Rattle.arith.specs.Checks.{answer};
 ghost use Rattle.choice.specs.Answer.{chooseAnswer, chooseTold, recordTold};
-ghost use Rattle.sheet.specs.State.{after, area, lengthsOk, Open};
+ghost use Rattle.sheet.specs.State.{after, area, finished, Open};
 ghost use Rattle.sheet.specs.Place.{materialOf, textured, nextTexture, placedSamples, placeRefusal};
-ghost use Rattle.sheet.specs.Compose.{taskOf, composeCase, recordsLent, composeLengthsOk, composeAnswer, composeAfter, composeField};
+ghost use Rattle.sheet.specs.Compose.{missing, taskOf, choiceRefusal, Ready, Leaves, composeCase, recordsLent, composeLengthsOk, composeAnswer, composeAfter, composeField};
 ghost use Rattle.sheet.specs.Told.{composeTold};
 use crate::Composed;
 use crate::Placed;
@@ -40,6 +40,13 @@ fn store(
     offs0[at] = off0;
     let off1 = best.off1;
     offs1[at] = off1;
+}
+
+// As many records are lent as the shortest of the four slices has.
+fn records_lent(kinds: usize, entries: usize, offs0: usize, offs1: usize) -> usize
+    ensures { λ r. ⌜ r ≡ recordsLent kinds entries offs0 offs1 ⌝ }
+{
+    lesser(kinds, lesser(entries, lesser(offs0, offs1)))
 }
 
 impl Sheet {
@@ -148,5 +155,92 @@ impl Sheet {
             Placed::Next(state) => state,
             Placed::Refused(_) => self,
         }
+    }
+
+    // Chooses, places and records every missing block in turn. The choice for the first block is refused where any would be.
+    fn compose_missing(
+        self,
+        samples: &mut [u8],
+        original: &[u8],
+        list: &[u64],
+        count: usize,
+        table: &[u8],
+        reach: u32,
+        texture: &[u8],
+        kinds: &mut [u32],
+        entries: &mut [u32],
+        offs0: &mut [i32],
+        offs1: &mut [i32],
+    ) -> Composed
+        requires { ⌜ Ready self (taskOf (materialOf (now list) count (now table) (now texture)) (now original) reach) (length (now samples)) (length (now kinds)) (length (now entries)) (length (now offs0)) (length (now offs1)) ⌝ }
+        ensures answered { λ r. ⌜ composeTold r ≡ answer (choiceRefusal self (taskOf (materialOf (now (list .entry)) count (now (table .entry)) (now (texture .entry))) (now (original .entry)) reach)) (finished self, missing self) ⌝ }
+        ensures left { λ r. ⌜ Leaves (choiceRefusal self (taskOf (materialOf (now (list .entry)) count (now (table .entry)) (now (texture .entry))) (now (original .entry)) reach)) self (taskOf (materialOf (now (list .entry)) count (now (table .entry)) (now (texture .entry))) (now (original .entry)) reach) (now (samples .entry)) (now (kinds .entry)) (now (entries .entry)) (now (offs0 .entry)) (now (offs1 .entry)) (now (samples .exit)) (now (kinds .exit)) (now (entries .exit)) (now (offs0 .exit)) (now (offs1 .exit)) ⌝ }
+    {
+        let first = self.placed as usize;
+        let last = self.blocks() as usize;
+        let mut state = self;
+        for block in first..last {
+            match state.choose_next(samples, original, list, count, table, reach, texture) {
+                Choice::Chosen(best) => {
+                    state = state.place_next(samples, list, count, table, texture, best);
+                    store(kinds, entries, offs0, offs1, block - first, best);
+                }
+                Choice::Refused(number) => {
+                    return Composed::Refused(number);
+                }
+            }
+        }
+        Composed::Finished(state, last - first)
+    }
+
+    // Chooses and places every block still missing, in sheet order, and writes their records from the first lent one on. Answers the
+    // finished state and how many records were written, or refuses with 1, 2, 8, 23, 20, 3, 5, 4 or 10 and alters nothing.
+    pub fn compose(
+        self,
+        samples: &mut [u8],
+        original: &[u8],
+        list: &[u64],
+        count: usize,
+        table: &[u8],
+        reach: u32,
+        texture: &[u8],
+        kinds: &mut [u32],
+        entries: &mut [u32],
+        offs0: &mut [i32],
+        offs1: &mut [i32],
+    ) -> Composed
+        ensures answered { λ r. ⌜ composeTold r ≡ composeAnswer self (now (samples .entry)) (taskOf (materialOf (now (list .entry)) count (now (table .entry)) (now (texture .entry))) (now (original .entry)) reach) (recordsLent (length (now (kinds .entry))) (length (now (entries .entry))) (length (now (offs0 .entry))) (length (now (offs1 .entry)))) ⌝ }
+        ensures left { λ r. ⌜ now (samples .exit) ≡ composeAfter self (now (samples .entry)) (taskOf (materialOf (now (list .entry)) count (now (table .entry)) (now (texture .entry))) (now (original .entry)) reach) (recordsLent (length (now (kinds .entry))) (length (now (entries .entry))) (length (now (offs0 .entry))) (length (now (offs1 .entry)))) ⌝ }
+        ensures kind { λ r. ⌜ now (kinds .exit) ≡ composeField (λ x. x .kind) self (now (samples .entry)) (taskOf (materialOf (now (list .entry)) count (now (table .entry)) (now (texture .entry))) (now (original .entry)) reach) (recordsLent (length (now (kinds .entry))) (length (now (entries .entry))) (length (now (offs0 .entry))) (length (now (offs1 .entry)))) (now (kinds .entry)) ⌝ }
+        ensures entry { λ r. ⌜ now (entries .exit) ≡ composeField (λ x. x .entry) self (now (samples .entry)) (taskOf (materialOf (now (list .entry)) count (now (table .entry)) (now (texture .entry))) (now (original .entry)) reach) (recordsLent (length (now (kinds .entry))) (length (now (entries .entry))) (length (now (offs0 .entry))) (length (now (offs1 .entry)))) (now (entries .entry)) ⌝ }
+        ensures first { λ r. ⌜ now (offs0 .exit) ≡ composeField (λ x. x .off0) self (now (samples .entry)) (taskOf (materialOf (now (list .entry)) count (now (table .entry)) (now (texture .entry))) (now (original .entry)) reach) (recordsLent (length (now (kinds .entry))) (length (now (entries .entry))) (length (now (offs0 .entry))) (length (now (offs1 .entry)))) (now (offs0 .entry)) ⌝ }
+        ensures second { λ r. ⌜ now (offs1 .exit) ≡ composeField (λ x. x .off1) self (now (samples .entry)) (taskOf (materialOf (now (list .entry)) count (now (table .entry)) (now (texture .entry))) (now (original .entry)) reach) (recordsLent (length (now (kinds .entry))) (length (now (entries .entry))) (length (now (offs0 .entry))) (length (now (offs1 .entry)))) (now (offs1 .entry)) ⌝ }
+    {
+        let records = records_lent(kinds.len(), entries.len(), offs0.len(), offs1.len());
+        let lengths = self.compose_lengths_ok(
+            samples.len(),
+            list.len(),
+            count,
+            texture.len(),
+            original.len(),
+            records,
+        );
+        let refusal = self.open_refusal(lengths, table);
+        if refusal != 0 {
+            return Composed::Refused(refusal);
+        }
+        self.compose_missing(
+            samples,
+            original,
+            list,
+            count,
+            table,
+            reach,
+            texture,
+            kinds,
+            entries,
+            offs0,
+            offs1,
+        )
     }
 }

@@ -9,11 +9,11 @@ use lib.ListN.{length}
 use Rattle.arith.specs.Checks.{given, answer}
 use Rattle.prediction.specs.Offset.{offsetOk}
 use Rattle.choice.specs.Record.{Record}
-use Rattle.sheet.specs.State.{lengthsOk, openRefusal}
+use Rattle.sheet.specs.State.{lengthsOk, openRefusal, Lengths}
 use Rattle.sheet.specs.Meaning.{recordOf, kindRefusal}
 use Rattle.sheet.specs.Place.{Material, materialOf, textured, nextWord, Predictable}
 use Rattle.sheet.specs.Told.{meaningTold}
-use Rattle.sheet.proofs.StateLaws.{Lengths, lengths-are, Opened, opened}
+use Rattle.sheet.proofs.StateLaws.{lengths-are, Opened, opened}
 use Rattle.sheet.proofs.PlaceLaws.{state-refused, kind-refused, offset-refused, predictable, all-given}
 use Rattle.sheet.proofs.Sheet.place.Statement.{statement}
 use Rattle.sheet.proofs.Sheet.place.Tie as tie
