@@ -6,7 +6,6 @@ use mathlib.Core.List.{List, [], _++_, append-nil}
 use native.Mathlib.Omega.{arith}
 use borrow.Author.Tests.{leb-true}
 use lib.Dec.{leb, eqb}
-use lib.IntN.{pos}
 use lib.ListN.{length, getD}
 use Rattle.arith.proofs.Bools.{both-of}
 use Rattle.arith.proofs.CheckLaws.{passed}
@@ -25,13 +24,9 @@ use Rattle.record_text.specs.Lines.{read, noMeaning, texts, Each}
 use Rattle.record_text.proofs.ParsedLaws.{exactly-reads, exactly-wrote}
 use Rattle.record_text.proofs.LineLaws.{size-line, value-line, record-line}
 use Rattle.record_text.proofs.LinesLaws.{line-read, line-parts, lines-read, lines-parts, ended-parts, many-reads, many-wrote}
-use Rattle.record_file.specs.Text.{sizeFieldsOf, fileText}
+use Rattle.record_file.specs.Text.{noRecord, sizeFieldsOf, fileText}
 use Rattle.record_file.specs.Reading.{File, fileOf, Aids, sizeMeaning, valueMeaning, lowAfter, recordMeaning, unchanged, valueLines, recordLines, lastLines, headLines, frontLines, blocksIn, fileLines}
 use Rattle.record_file.proofs.MeaningLaws.{SoundValue, values-sound, sound-values, each-made, each-at, record-small, small-printable}
-
--- the record that stands where there is none
-abbrev pub noRecord : RecordFields
-noRecord = record { kind = 0; entry = 0; off0 = pos 0; off1 = pos 0 }
 
 -- what is sound in a file
 pub record FileSound (A : Aids) (F : File) : Type 0 where
@@ -159,7 +154,7 @@ same-read : {A : Type 0} {a b : A} {s t : List ℕ} → read a s ≡ read b t �
 same-read e = (cc, cc)
 
 -- the parts of the lines before the records
-record FrontParts (texture : ℕ) (s : List ℕ) (z : SizeFields) (table t : List ℕ) : Type 0 where
+pub record FrontParts (texture : ℕ) (s : List ℕ) (z : SizeFields) (table t : List ℕ) : Type 0 where
   pub s1 : List ℕ
   pub s2 : List ℕ
   pub s3 : List ℕ
@@ -173,7 +168,7 @@ record FrontParts (texture : ℕ) (s : List ℕ) (z : SizeFields) (table t : Lis
   pub count : length table ≡ z .values
   pub each : Each SoundValue lowAfter 0 table
 
-front-parts : (texture : ℕ) (s : List ℕ) (z : SizeFields) (table t : List ℕ) → frontLines texture s ≡ read (z, table) t → FrontParts texture s z table t
+pub front-parts : (texture : ℕ) (s : List ℕ) (z : SizeFields) (table t : List ℕ) → frontLines texture s ≡ read (z, table) t → FrontParts texture s z table t
 front-parts texture s z table t q =
     let h = lines-parts _ (headLines texture s) (z, table) t q in
     let p1 = line-parts 1 noMeaning _ (exactly sizeTitle s) (h .value) (h .rest) (h .first) in

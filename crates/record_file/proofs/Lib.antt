@@ -6,4 +6,6 @@ pub mod SpaceLaws
 pub mod WriteLaws
 pub mod ReadLaws
 pub mod PartLaws
+pub mod RestLaws
+pub mod BackLaws
 pub mod RoundTrip

@@ -20,20 +20,14 @@ use Rattle.sheet.specs.Place.{textured}
 use Rattle.record_text.specs.declared.cursor.RecordFields.{RecordFields}
 use Rattle.record_text.specs.Lines.{Lined, read, judged}
 use Rattle.record_text.proofs.LinesLaws.{refused-read}
-use Rattle.record_file.specs.Text.{fileText, sizeFieldsOf}
-use Rattle.record_file.specs.Reading.{File, fileOf, Aids, aidsOf, sizeMeaning, fileLines, readLengthsOk, readFile}
+use Rattle.record_file.specs.Text.{noRecord, fileText, sizeFieldsOf}
+use Rattle.record_file.specs.Reading.{File, fileOf, Aids, aidsOf, sizeMeaning, fileLines, readLengthsOk, ReadLengths, readFile}
 use Rattle.record_file.specs.Writing.{Source, sourceOf, spaceFor, writeRefusal, writtenText}
 use Rattle.record_file.proofs.MeaningLaws.{written-sound, read-sound}
-use Rattle.record_file.proofs.FileLaws.{noRecord, FileSound, FileRead, size-small, file-reads, file-wrote}
+use Rattle.record_file.proofs.FileLaws.{FileSound, FileRead, size-small, file-reads, file-wrote}
 use Rattle.record_file.proofs.RefusalLaws.{accepted-parts, parts-accepted}
 
 -- the lengths that reading checks first
-pub record ReadLengths (samples records words count : ℕ) : Type 0 where
-  pub samples-lent : 16384 ≤ samples
-  pub records-lent : 1024 ≤ records
-  pub inside : count ≤ words
-  pub few : count ≤ 9999
-
 pub read-lengths : (samples records words count : ℕ) → readLengthsOk samples records words count ≡ true → ReadLengths samples records words count
 unfolding readLengthsOk
 read-lengths samples records words count h =
@@ -60,7 +54,7 @@ table-parts t h =
     let c = both-of (bytes t) (rising 0 t) (b .1) in
     (a .0, b .0, c .0, c .1)
 
-parts-table : (t : List ℕ) → 1 ≤ length t → length t ≤ 256 → bytes t ≡ true → rising 0 t ≡ true → tableOk t ≡ true
+pub parts-table : (t : List ℕ) → 1 ≤ length t → length t ≤ 256 → bytes t ≡ true → rising 0 t ≡ true → tableOk t ≡ true
 unfolding tableOk
 parts-table t a b c d = rw (le-leb _ _ a, le-leb _ _ b, c, d)
 

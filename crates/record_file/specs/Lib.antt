@@ -4,4 +4,5 @@ pub mod Reading
 pub mod Writing
 pub mod Told
 pub mod Stored
+pub mod Back
 pub mod Examples

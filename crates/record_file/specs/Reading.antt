@@ -1,10 +1,12 @@
 -- Document 01, "House file": reading the text, line by line. Assumes nothing.
-use Prim.Native.Nat.{ℕ, suc, _+_, _*_}
-use mathlib.Core.Bool.{Bool, _&&_, _||_}
+use Prim.Native.Nat.{ℕ, suc, _+_, _*_, _≤_}
+use mathlib.Core.Path.{_≡_}
+use mathlib.Core.Bool.{Bool, true, _&&_, _||_}
 use mathlib.Core.List.{List}
 use lib.Dec.{eqb, leb, ltb}
-use lib.ListN.{length}
+use lib.ListN.{length, take}
 use Rattle.arith.specs.Checks.{unless}
+use Rattle.depth_table.specs.Table.{tableOk}
 use Rattle.pattern.specs.Size.{sizeOk}
 use Rattle.sheet.specs.Grid.{blocks}
 use Rattle.sheet.specs.State.{stateOf, sidesOk}
@@ -101,11 +103,15 @@ frontLines texture s = linesThen (headLines texture s) λ z s. tableLines z s
 abbrev pub blocksIn : SizeFields → ℕ
 blocksIn z = blocks (z .n) (z .width) (z .height)
 
+-- the records after line 4 + values, and nothing after them
+abbrev pub restLines : Aids → SizeFields → List ℕ → Lined (List RecordFields)
+restLines A z s = lastLines (z .n) A (blocksIn z) (5 + z .values) s
+
 -- the whole text
 unfoldable pub fileLines : Aids → List ℕ → Lined File
 fileLines A s =
     linesThen (frontLines (length (A .texture)) s) λ f s.
-    linesThen (lastLines (f .0 .n) A (blocksIn (f .0)) (5 + f .0 .values) s) λ records s.
+    linesThen (restLines A (f .0) s) λ records s.
     read (fileOf (f .0 .n) (f .0 .width) (f .0 .height) (f .1) records) s
 
 -- reading is lent 16,384 samples and 1,024 records, and a count that the lent words and 9,999 allow
@@ -116,3 +122,16 @@ readLengthsOk samples records words count = leb 16384 samples && (leb 1024 recor
 unfoldable pub readFile : Aids → ℕ → ℕ → List ℕ → Lined File
 readFile A samples records s =
     judged (unless (readLengthsOk samples records (length (A .list)) (A .count)) 2 0) 0 (fileLines A s)
+
+-- the lengths where they are not refused
+pub record ReadLengths (samples records words count : ℕ) : Type 0 where
+  pub samples-lent : 16384 ≤ samples
+  pub records-lent : 1024 ≤ records
+  pub inside : count ≤ words
+  pub few : count ≤ 9999
+
+-- the lines before the records are sound, and the first values of the array are the table
+pub record RestReady (z : SizeFields) (array : List ℕ) (texture : ℕ) : Type 0 where
+  pub size : sizeMeaning texture z ≡ 0
+  pub room : z .values ≤ length array
+  pub sound : tableOk (take (z .values) array) ≡ true

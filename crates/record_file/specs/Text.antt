@@ -32,6 +32,10 @@ fileText n width height table records =
 abbrev pub meant : RecordFields → Record
 meant r = recordOf (r .kind) (r .entry) (r .off0) (r .off1)
 
+-- the record that stands where there is none
+abbrev pub noRecord : RecordFields
+noRecord = record { kind = 0; entry = 0; off0 = pos 0; off1 = pos 0 }
+
 -- records are lent as a slice for each field: the record at place i, and the first m records
 abbrev pub recordAt : List ℕ → List ℕ → List ℤ → List ℤ → ℕ → RecordFields
 recordAt kinds entries offs0 offs1 i =

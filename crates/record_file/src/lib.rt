@@ -7,5 +7,7 @@ mod reading;
 mod records;
 mod writing;
 
+pub use reading::FileBack;
+pub use reading::read;
 pub use writing::Wrote;
 pub use writing::write;
