@@ -1,1 +1,6 @@
 -- Laws of the definitions of `record_text`.
+pub mod ParsedLaws
+pub mod NumeralLaws
+pub mod FieldLaws
+pub mod LineLaws
+pub mod LengthLaws
