@@ -4,3 +4,5 @@ pub mod NumeralLaws
 pub mod FieldLaws
 pub mod LineLaws
 pub mod LengthLaws
+pub mod SignLaws
+pub mod ReadSteps

@@ -24,22 +24,16 @@ bad-found p = absurd (subst IsBad p tt)
 -- ---- one text and then another, mapped
 
 module _ {A B : Type 0} (p : Parser A) (q : Parser B) (s : List ℕ) where
-  pub then-bad : p s ≡ badForm → (p then q) s ≡ badForm
-  then-bad h = rw h
-
-  pub then-bad-next : {a : A} {t : List ℕ} → p s ≡ found a t → q t ≡ badForm → (p then q) s ≡ badForm
-  then-bad-next h k = rw (h, k)
-
-  pub then-found : {a : A} {b : B} {t u : List ℕ} → p s ≡ found a t → q t ≡ found b u → (p then q) s ≡ found (a, b) u
+  then-found : {a : A} {b : B} {t u : List ℕ} → p s ≡ found a t → q t ≡ found b u → (p then q) s ≡ found (a, b) u
   then-found h k = rw (h, k)
 
   -- the parts of two texts that were read
-  pub record Parts (c : A × B) (u : List ℕ) : Type 0 where
-    pub rest : List ℕ
-    pub one : p s ≡ found (c .0) rest
-    pub two : q rest ≡ found (c .1) u
+  record Parts (c : A × B) (u : List ℕ) : Type 0 where
+    rest : List ℕ
+    one : p s ≡ found (c .0) rest
+    two : q rest ≡ found (c .1) u
 
-  pub then-parts : (c : A × B) (u : List ℕ) → (p then q) s ≡ found c u → Parts c u
+  then-parts : (c : A × B) (u : List ℕ) → (p then q) s ≡ found c u → Parts c u
   then-parts c u h = first (p s) refl h
     where
       second : (a : A) (t : List ℕ) → p s ≡ found a t → (g : Parsed B) → q t ≡ g → andThen g (λ b v. found (a, b) v) ≡ found c u → Parts c u

@@ -4,4 +4,5 @@ pub mod Parsed
 pub mod Field
 pub mod Line
 pub mod Codec
+pub mod Told
 pub mod Examples
