@@ -25,6 +25,10 @@ pub length-below : (e n : ℕ) → length (signedText e (negsuc n)) ≡ furtherD
 unfolding signedText signedNumeral
 length-below e n = omega (arith, length-append (numeral (suc n)) (e ∷ []), length-numeral (suc n))
 
+pub signed-some : (e : ℕ) (z : ℤ) → 0 < length (signedText e z)
+signed-some e (pos n) = omega (arith, length-above e n)
+signed-some e (negsuc n) = omega (arith, length-below e n)
+
 -- of a number below 10 ^ (k + 1)
 pub number-short : (e k n : ℕ) → n < 10 ^ suc k → length (numberText e n) ≤ k + 2
 number-short e k n h = omega (arith, length-number e n, further-below 4 k n h)

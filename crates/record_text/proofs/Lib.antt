@@ -6,3 +6,4 @@ pub mod LineLaws
 pub mod LengthLaws
 pub mod SignLaws
 pub mod ReadSteps
+pub mod WriteSteps

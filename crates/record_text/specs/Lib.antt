@@ -5,4 +5,5 @@ pub mod Field
 pub mod Line
 pub mod Codec
 pub mod Told
+pub mod Put
 pub mod Examples

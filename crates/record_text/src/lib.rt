@@ -1,5 +1,6 @@
 // The text of the record file (document 01: house file): numerals, fields and lines, read and written.
 mod cursor;
+mod digits;
 mod field;
 mod line;
 mod sign;
