@@ -37,6 +37,26 @@ pub signed-short : (e k : ℕ) (z : ℤ) → natAbs z < 10 ^ suc k → length (s
 signed-short e k (pos n) h = omega (arith, length-above e n, further-below 4 k n h)
 signed-short e k (negsuc n) h = omega (arith, length-below e n, further-below 4 k (suc n) h)
 
+-- of any number
+pub number-le : (e n : ℕ) → length (numberText e n) ≤ 6
+number-le e n = omega (arith, length-number e n, further-le 4 n)
+
+pub signed-le : (e : ℕ) (z : ℤ) → length (signedText e z) ≤ 7
+signed-le e (pos n) = omega (arith, length-above e n, further-le 4 n)
+signed-le e (negsuc n) = omega (arith, length-below e n, further-le 4 (suc n))
+
+pub size-le : (h : SizeFields) → length (sizeText h) ≤ 24
+unfolding sizeText
+size-le h =
+    simp length-append
+    (omega (arith, number-le 32 (h .n), number-le 32 (h .width), number-le 32 (h .height), number-le 10 (h .values)))
+
+pub record-le : (r : RecordFields) → length (recordText r) ≤ 26
+unfolding recordText
+record-le r =
+    simp length-append
+    (omega (arith, number-le 32 (r .kind), number-le 32 (r .entry), signed-le 32 (r .off0), signed-le 10 (r .off1)))
+
 -- a table value's line has at most 4 bytes
 pub value-line-length : (v : ℕ) → v ≤ 255 → length (valueText v) ≤ 4
 unfolding valueText

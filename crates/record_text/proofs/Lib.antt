@@ -7,3 +7,4 @@ pub mod LengthLaws
 pub mod SignLaws
 pub mod ReadSteps
 pub mod WriteSteps
+pub mod PutLaws

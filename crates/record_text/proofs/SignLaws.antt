@@ -1,12 +1,12 @@
 -- Signed numbers as the code computes them. Assumes nothing.
 use Prim.Native.Nat.{ℕ, zero, suc, _+_, _-_, _≤_, _<_}
-use mathlib.Core.Path.{_≡_, refl, _∙_, ap, subst}
+use mathlib.Core.Path.{_≡_, refl, sym, _∙_, ap, subst}
 use mathlib.Core.Bool.{Bool, true, false}
 use native.Mathlib.Omega.{arith}
 use lib.IntN.{ℤ, pos, negsuc, natAbs, _-ℤ_, +ℤ-idl}
 use lib.Signed.{ltZ, nonNeg}
-use lib.Dec.{T}
-use borrow.Author.Tests.{ltb-true}
+use lib.Dec.{T, ltb}
+use borrow.Author.Tests.{ltb-true, ltb-false, lt-ltb, le-ltb}
 use mir.Syntax.{w32}
 use mir.Val.{SFits, toZ, ofZ}
 use mir.ValLaws.{toZ-pos, toZ-ofZ}
@@ -38,3 +38,12 @@ opposite-fits z e h = rw (opposite z e) (record { sfits = omega arith })
 pub not-below : (z : ℤ) → ltZ z (pos 0) ≡ false → T (nonNeg z)
 not-below (pos n) e = tt
 not-below (negsuc n) e = clash e
+
+-- whether the magnitude is below `numeralEnd`, by two comparisons
+pub within-low : (z : ℤ) → ltZ (negsuc 99999) z ≡ false → false ≡ ltb (natAbs z) numeralEnd
+within-low (pos n) e = clash e
+within-low (negsuc n) e = sym (le-ltb (suc n) numeralEnd (omega (arith, ltb-false n 99999 e)))
+
+pub within-high : (z : ℤ) → ltZ (negsuc 99999) z ≡ true → ltZ z (pos numeralEnd) ≡ ltb (natAbs z) numeralEnd
+within-high (pos n) e = refl
+within-high (negsuc n) e = sym (lt-ltb (suc n) numeralEnd (omega (arith, ltb-true n 99999 e)))

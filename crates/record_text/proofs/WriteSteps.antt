@@ -42,8 +42,8 @@ written-as {l₀} {l₁} {v} {w} {p} {q} h e = subst (λ (x : List ℕ). Written
 
 -- ---- room for two texts: for the first, and then for the second
 
-pub room-first : (l v w : List ℕ) (p : ℕ) → p + length (v ++ w) ≤ length l → p + length v ≤ length l
-room-first l v w p h = omega (arith, length-append v w)
+pub room-first : (p n : ℕ) (v w : List ℕ) → p + length (v ++ w) ≤ n → p + length v ≤ n
+room-first p n v w h = omega (arith, length-append v w)
 
 pub room-next :
     {l₀ l₁ v : List ℕ} {p q : ℕ} (w : List ℕ) → p + length (v ++ w) ≤ length l₀ → Written l₀ l₁ p v q → q + length w ≤ length l₁

@@ -15,7 +15,7 @@ write-numeral-requires : tie.Need-write-numeral-requires
 unfolding numberText
 write-numeral-requires c κs =
     let a = c .before .before .args in
-    (c .before .before .pre .0, room-first (a .out .now) (numeral (a .x)) (a .end ∷ []) (a .at) (c .before .before .pre .1))
+    (c .before .before .pre .0, room-first _ _ (numeral (a .x)) (a .end ∷ []) (c .before .before .pre .1))
 
 -- there is room for the byte
 room : (c : tie.After-write-numeral) → c .write-numeral .result + 1 ≤ length (c .write-numeral .last .0)
