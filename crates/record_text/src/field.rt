@@ -53,7 +53,7 @@ fn read_digits(bytes: &[u8], at: usize, end: u8, most: u32, first: u32) -> Numbe
         left -= 1;
         p += 1;
     }
-    NumberRead::Bad
+    NumberRead::Bad // the bytes end before the field does
 }
 
 // A numeral of one to five digits without leading zeros, and the byte `end` after it.

@@ -11,7 +11,7 @@ use lib.Signed.{ltZ}
 use Rattle.record_text.specs.Field.{numberText, signedText}
 use Rattle.record_text.proofs.LengthLaws.{signed-some}
 use Rattle.record_text.proofs.SignLaws.{word-back}
-use Rattle.record_text.proofs.WriteSteps.{written-byte, written-then, written-as, room-first, room-next, negative-text, positive-text}
+use Rattle.record_text.proofs.WriteSteps.{written-byte, written-then, written-as, negative-text, positive-text}
 use Rattle.record_text.proofs.digits.write_signed.Statement.{statement}
 use Rattle.record_text.proofs.digits.write_signed.Tie as tie
 
@@ -54,14 +54,12 @@ magnitude-requires c κs = search needs
 write-number-requires : tie.Need-write-number-requires
 write-number-requires c κs =
     let s = c .before .before .before .before in
-    let a = s .args in
-    let room : a .at + length ((45 ∷ []) ++ numberText (a .end) (c .magnitude .result)) ≤ length (a .out .now) = omega (arith, ap length (minus-text c), s .pre .1) in
-    (rw (sized c) (s .pre .0), room-next (numberText (a .end) (c .magnitude .result)) room (written-byte (a .out .now) (a .at) 45))
+    (rw (sized c) (s .pre .0), simp length-set (omega (arith, ap length (minus-text c), s .pre .1)))
 
 same-length : tie.Need-same-length
 same-length c =
     let a = c .before .before .before .before .before .before .before .args in
-    c .before .before .write-number .kept .0 ∙ length-set (a .out .now) (a .at) 45
+    c .before .before .write-number .kept .0 ∙ length-set (a .out .now) (a .at) _
 
 returns : tie.Need-returns
 returns c =
