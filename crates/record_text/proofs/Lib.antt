@@ -8,3 +8,5 @@ pub mod SignLaws
 pub mod ReadSteps
 pub mod WriteSteps
 pub mod PutLaws
+pub mod LinesLaws
+pub mod LoopLaws

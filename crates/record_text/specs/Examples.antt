@@ -7,7 +7,8 @@ use Rattle.record_text.specs.declared.cursor.RecordFields.{RecordFields}
 use Rattle.record_text.specs.Numeral.{digitsOf, furtherDigits, numeral, signedNumeral}
 use Rattle.record_text.specs.Parsed.{Parsed, badForm, found, exactly}
 use Rattle.record_text.specs.Field.{moreDigits, number, signed, numberText, signedText}
-use Rattle.record_text.specs.Line.{depthTitle, sizeLine, sizeText, recordLine, recordText}
+use Rattle.record_text.specs.Line.{depthTitle, sizeLine, sizeText, valueLine, recordLine, recordText}
+use Rattle.record_text.specs.Lines.{refusedAt, read, manyLines, noMeaning}
 
 zero-numeral : numeral 0 ≡ 48 ∷ []
 unfolding numeral digitsOf furtherDigits
@@ -61,3 +62,19 @@ no-line-end = refl
 title-no-line-end : exactly depthTitle (100 ∷ 101 ∷ 112 ∷ 116 ∷ 104 ∷ []) ≡ badForm
 unfolding exactly depthTitle
 title-no-line-end = refl
+
+-- two table lines from line 4 on, `100` and `128`
+two-lines :
+    manyLines valueLine (λ (c : Unit {0}). noMeaning) (λ c v. c) 2 4 tt (49 ∷ 48 ∷ 48 ∷ 10 ∷ 49 ∷ 50 ∷ 56 ∷ 10 ∷ 7 ∷ []) ≡ read (100 ∷ 128 ∷ []) (7 ∷ [])
+unfolding manyLines valueLine number moreDigits
+two-lines = refl
+
+-- the second is missing, and is refused at its place
+missing-line : manyLines valueLine (λ (c : Unit {0}). noMeaning) (λ c v. c) 2 4 tt (49 ∷ 48 ∷ 48 ∷ 10 ∷ []) ≡ refusedAt 9 5
+unfolding manyLines valueLine number moreDigits
+missing-line = refl
+
+-- each line's form is judged before its meaning, and the first bad line is reported
+form-first : manyLines valueLine (λ (c : Unit {0}) v. 3) (λ c v. c) 2 4 tt (48 ∷ 49 ∷ 10 ∷ 49 ∷ 10 ∷ []) ≡ refusedAt 9 4
+unfolding manyLines valueLine number moreDigits
+form-first = refl

@@ -6,4 +6,5 @@ pub mod Line
 pub mod Codec
 pub mod Told
 pub mod Put
+pub mod Lines
 pub mod Examples
