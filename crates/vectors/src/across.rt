@@ -189,9 +189,7 @@ fn line(c: Case, number: usize)
     let a = chosen(c, s);
     let b = chosen(c, t);
     let border = s.border;
-    output::text(b"diagonal");
-    output::number(c.n);
-    output::number(number);
+    output::head(b"diagonal", c.n, number);
     flag(ends_decide(border, c.n));
     output::number(a.cost as usize);
     output::number(b.cost as usize);
@@ -208,15 +206,10 @@ fn line_if_wanted(n: usize, number: usize)
     }
 }
 
-fn lines(n: usize)
+pub(crate) fn lines(n: usize)
     requires { ⌜ (1 ≤ n) × (n ≤ 8) ⌝ }
 {
     for number in 0..60 {
         line_if_wanted(n, number);
     }
-}
-
-pub(crate) fn print() {
-    lines(4);
-    lines(8);
 }

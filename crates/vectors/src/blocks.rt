@@ -19,23 +19,16 @@ fn line(n: usize, case: usize)
     let area = parts::area(n);
     let block = samples(Source::Bytes, n, (500 + 10 * case + n) as u64);
     let out = transposed(n, parts::first(&block, area));
-    output::text(b"transposed");
-    output::number(n);
-    output::number(case);
+    output::head(b"transposed", n, case);
     output::samples(parts::first(&out, area));
     output::end();
 }
 
-fn lines(n: usize)
+pub(crate) fn lines(n: usize)
     requires { ⌜ (1 ≤ n) × (n ≤ 8) ⌝ }
 {
     line(n, 0);
     line(n, 1);
     line(n, 2);
     line(n, 3);
-}
-
-pub(crate) fn print() {
-    lines(4);
-    lines(8);
 }

@@ -232,9 +232,7 @@ fn line(n: usize, number: usize)
     let c = case_of(n, number);
     let original = samples(Source::Fill(c.original), n, 10000 + c.seed);
     let border = samples(Source::Fill(c.border), n, 20000 + c.seed);
-    output::text(b"choice");
-    output::number(n);
-    output::number(number);
+    output::head(b"choice", n, number);
     answer(with_texture(
         c,
         parts::first(&border, lent(4 * n, c.fault == 1)),
@@ -243,15 +241,10 @@ fn line(n: usize, number: usize)
     output::end();
 }
 
-fn lines(n: usize)
+pub(crate) fn lines(n: usize)
     requires { ⌜ (1 ≤ n) × (n ≤ 8) ⌝ }
 {
     for number in 0..60 {
         line(n, number);
     }
-}
-
-pub(crate) fn print() {
-    lines(4);
-    lines(8);
 }

@@ -17,14 +17,19 @@ mod tables;
 mod words;
 
 fn main() {
-    lists::print();
-    contours::print();
+    lists::lines(4);
+    lists::lines(8);
+    contours::lines(4);
+    contours::lines(8);
     indices::print();
-    blocks::print();
+    blocks::lines(4);
+    blocks::lines(8);
     table_refusals::print();
     pattern_refusals::print();
     sides::print();
     predictions::print();
-    choices::print();
-    across::print();
+    choices::lines(4);
+    choices::lines(8);
+    across::lines(4);
+    across::lines(8);
 }
