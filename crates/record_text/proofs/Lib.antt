@@ -1,0 +1,12 @@
+-- Laws of the definitions of `record_text`.
+pub mod ParsedLaws
+pub mod NumeralLaws
+pub mod FieldLaws
+pub mod LineLaws
+pub mod LengthLaws
+pub mod SignLaws
+pub mod ReadSteps
+pub mod WriteSteps
+pub mod PutLaws
+pub mod LinesLaws
+pub mod LoopLaws

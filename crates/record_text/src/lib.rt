@@ -1,0 +1,35 @@
+// The text of the record file (document 01: house file): numerals, fields and lines, read and written.
+mod cursor;
+mod digits;
+mod field;
+mod line;
+mod put;
+mod put_line;
+mod sign;
+
+pub use cursor::Cursor;
+pub use cursor::RecordFields;
+pub use cursor::SizeFields;
+pub use field::NumberRead;
+pub use field::SignedRead;
+pub use field::read_number;
+pub use field::read_signed;
+pub use line::RecordRead;
+pub use line::SizeRead;
+pub use line::TextRead;
+pub use line::read_depth_title;
+pub use line::read_record_line;
+pub use line::read_record_title;
+pub use line::read_size_line;
+pub use line::read_size_title;
+pub use line::read_text;
+pub use line::read_value_line;
+pub use put::put_depth_title;
+pub use put::put_number;
+pub use put::put_record_title;
+pub use put::put_signed;
+pub use put::put_size_title;
+pub use put::put_text;
+pub use put::put_value_line;
+pub use put_line::put_record_line;
+pub use put_line::put_size_line;

@@ -1,0 +1,88 @@
+-- What `compose` answers and leaves, by what its checks say. Assumes nothing.
+use Prim.Native.Nat.{ℕ, _-_, _≤_, min}
+use mathlib.Core.Bool.{Bool, true}
+use mathlib.Core.List.{List}
+use mathlib.Core.Path.{_≡_, sym, ap, _∙_}
+use native.Mathlib.Omega.{arith}
+use borrow.Author.Tests.{eqb-true, leb-true}
+use lib.Dec.{eqb, leb}
+use lib.IntN.{ℤ}
+use lib.ListN.{length}
+use Rattle.arith.specs.Checks.{refused, answer}
+use Rattle.arith.proofs.Bools.{both-of}
+use Rattle.arith.proofs.CheckLaws.{answer-refused, lent-refused}
+use Rattle.choice.specs.Record.{Record}
+use Rattle.sheet.specs.State.{area, blocksOf, finished, lengthsOk, openRefusal}
+use Rattle.sheet.specs.Compose.{missing, Task, samplesBy, fieldBy, recordsLent, composeLengthsOk, choiceRefusal, Ready, composeRefusal, composeAnswer, composeAfter, composeField}
+use Rattle.sheet.specs.declared.Sheet.{Sheet}
+use Rattle.sheet.proofs.StateLaws.{lengths-are, open-kept, open-passed, opened}
+
+module _ (S : Sheet) (T : Task) (samples records : ℕ) where
+  -- whether the lengths hold
+  abbrev pub lengthsHold : Bool
+  lengthsHold =
+      composeLengthsOk S samples (length (T .material .list)) (T .material .count) (length (T .material .texture)) (length (T .original)) records
+
+  -- a refusal of the state or the table is composing's
+  pub compose-kept :
+      {l : Bool} {k : ℕ} → l ≡ lengthsHold → k ≡ openRefusal S l (T .material .table) 0 → (k ≡ 0 → ⊥) → k ≡ composeRefusal S samples T records
+  unfolding composeRefusal
+  compose-kept {l} {k} el e h =
+      let q : k ≡ openRefusal S lengthsHold (T .material .table) 0 = rw el at e in
+      q ∙ sym (open-kept S lengthsHold (T .material .table) (choiceRefusal S T) (λ z. h (q ∙ z)))
+
+  module _ (none : openRefusal S lengthsHold (T .material .table) 0 ≡ 0) where
+    -- past them, the rest decides
+    pub compose-passed : composeRefusal S samples T records ≡ choiceRefusal S T
+    unfolding composeRefusal
+    compose-passed = open-passed S lengthsHold (T .material .table) (choiceRefusal S T) none
+
+    pub compose-ready :
+        {kinds entries offs0 offs1 : ℕ} → records ≡ recordsLent kinds entries offs0 offs1 → Ready S T samples kinds entries offs0 offs1
+    unfolding composeLengthsOk
+    compose-ready {kinds} {entries} {offs0} {offs1} e =
+        let o = opened S lengthsHold (T .material .table) 0 none .0 in
+        let a = both-of (lengthsOk S samples (length (T .material .list)) (T .material .count) (length (T .material .texture))) _ (o .right) in
+        let b = both-of (eqb (length (T .original)) (area S)) (leb (blocksOf S) records) (a .1) in
+        let r : blocksOf S ≤ min kinds (min entries (min offs0 offs1)) = rw e at (leb-true (blocksOf S) records (b .1)) in
+        record {
+          is-open = o .is;
+          lengths = lengths-are S samples (length (T .material .list)) (T .material .count) (length (T .material .texture)) (a .0);
+          same = eqb-true (length (T .original)) (area S) (b .0);
+          sound = o .sound;
+          kinds-room = omega arith;
+          entries-room = omega arith;
+          offs0-room = omega arith;
+          offs1-room = omega arith;
+        }
+
+-- ---- the answer and the slices
+
+module _ (S : Sheet) (s : List ℕ) (T : Task) (records : ℕ) where
+  pub told-refused : {k : ℕ} → k ≡ composeRefusal S (length s) T records → (k ≡ 0 → ⊥) → refused k ≡ composeAnswer S s T records
+  unfolding composeAnswer
+  told-refused e h =
+      ap refused e ∙ answer-refused (composeRefusal S (length s) T records) (finished S, missing S) (λ z. h (e ∙ z))
+
+  pub samples-refused : {k : ℕ} → k ≡ composeRefusal S (length s) T records → (k ≡ 0 → ⊥) → s ≡ composeAfter S s T records
+  unfolding composeAfter
+  samples-refused e h = lent-refused (composeRefusal S (length s) T records) _ s (λ z. h (e ∙ z))
+
+  pub field-refused :
+      {A : Type 0} (field : Record → A) (old : List A) {k : ℕ} → k ≡ composeRefusal S (length s) T records → (k ≡ 0 → ⊥)
+      → old ≡ composeField field S s T records old
+  unfolding composeField
+  field-refused field old e h = lent-refused (composeRefusal S (length s) T records) _ old (λ z. h (e ∙ z))
+
+  module _ (passed : composeRefusal S (length s) T records ≡ choiceRefusal S T) where
+    pub told-by : answer (choiceRefusal S T) (finished S, missing S) ≡ composeAnswer S s T records
+    unfolding composeAnswer
+    told-by = rw passed
+
+    pub samples-by : samplesBy (choiceRefusal S T) S s T ≡ composeAfter S s T records
+    unfolding composeAfter
+    samples-by = rw passed
+
+    pub field-by : {A : Type 0} (field : Record → A) (old : List A) → fieldBy (choiceRefusal S T) field S s T old ≡ composeField field S s T records old
+    unfolding composeField
+    field-by field old = rw passed

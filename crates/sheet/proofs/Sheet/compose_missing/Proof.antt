@@ -1,0 +1,206 @@
+-- `compose_missing` meets its contract: the loop keeps `Going`.
+use Prim.Native.Nat.{_-_, _≤_, _<_}
+use mathlib.Core.Path.{_≡_, refl, sym, ap, _∙_}
+use native.Mathlib.Omega.{arith}
+use borrow.Author.Needs.{needs}
+use lib.ListN.{length, length-set}
+use Rattle.arith.specs.Checks.{refused, given}
+use Rattle.arith.proofs.CheckLaws.{answer-refused}
+use Rattle.choice.specs.Answer.{chooseAnswer, chooseTold, recordTold}
+use Rattle.sheet.specs.State.{finished}
+use Rattle.sheet.specs.Place.{materialOf}
+use Rattle.sheet.specs.Compose.{missing, Task, taskOf, composeCase, choiceRefusal}
+use Rattle.sheet.proofs.PlaceLaws.{length-placed}
+use Rattle.sheet.proofs.TurnLaws.{Going, going-none, going-more, Turn, turn, turn-refused, turn-none, turn-chosen, turn-placed, left-refused, left-all, told-all}
+use Rattle.sheet.proofs.Sheet.compose_missing.Statement.{statement}
+use Rattle.sheet.proofs.Sheet.compose_missing.Tie as tie
+
+abbrev Inv-loop : tie.InvT-loop
+Inv-loop samples₀ original list count table reach texture kinds₀ entries₀ offs0₀ offs1₀ missing state₀ k₀ samples kinds entries offs0 offs1 state k =
+    (k ≤ missing)
+    × (length samples ≡ length samples₀)
+    × (length kinds ≡ length kinds₀)
+    × (length entries ≡ length entries₀)
+    × (length offs0 ≡ length offs0₀)
+    × (length offs1 ≡ length offs1₀)
+    × Going state₀ (taskOf (materialOf list count table texture) original reach) samples₀ kinds₀ entries₀ offs0₀ offs1₀ k state samples kinds entries offs0 offs1
+
+abbrev μ-loop : tie.MeasureT-loop
+μ-loop samples₀ original list count table reach texture kinds₀ entries₀ offs0₀ offs1₀ missing state₀ k₀ samples kinds entries offs0 offs1 state k =
+    missing - k
+
+-- the call's arguments, and the task that they make
+abbrev begin : tie.At-loop Inv-loop μ-loop → tie.Start Inv-loop μ-loop
+begin c = c .before .before .before .before .before .before .before .before .before .before
+
+abbrev task : tie.Start Inv-loop μ-loop → Task
+task d = taskOf (materialOf (d .args .list .now) (d .args .count) (d .args .table .now) (d .args .texture .now)) (d .args .original .now) (d .args .reach)
+
+blocks-requires : tie.Need-blocks-requires Inv-loop μ-loop
+blocks-requires c κs = search needs
+
+cast-missing : tie.Need-cast-missing Inv-loop μ-loop
+cast-missing c = search needs
+
+sub-missing : tie.Need-sub-missing Inv-loop μ-loop
+sub-missing c = omega (arith, c .before .blocks2 .ensures, c .before .before .before .before .before .before .before .before .before .pre .is-open .missing)
+
+loop-holds : tie.Need-loop-holds Inv-loop μ-loop
+loop-holds c =
+    let d = c .before .before .before .before .before .before .before .before .before in
+    let a = d .args in
+    (omega arith, refl, refl, refl, refl, refl, going-none (a .self) (task d) (a .samples .now) (a .kinds .now) (a .entries .now) (a .offs0 .now) (a .offs1 .now))
+
+-- what holds in a turn
+more : (c : tie.In-loop Inv-loop μ-loop) → c .before .loop .k < missing (begin (c .before) .args .self)
+more c = omega (arith, c .before .before .before .blocks2 .ensures, c .loop-test .taken)
+
+this :
+    (c : tie.In-loop Inv-loop μ-loop)
+    → let d = begin (c .before) in Turn (d .args .self) (task d) (c .before .loop .state) (c .before .loop .samples)
+this c =
+    let d = begin (c .before) in
+    let a = d .args in
+    turn (a .self) (task d) (a .samples .now) (a .kinds .now) (a .entries .now) (a .offs0 .now) (a .offs1 .now) (d .pre) (c .before .loop .inv .6) (more c) (c .before .loop .inv .1)
+
+choose-next-requires : tie.Need-choose-next-requires Inv-loop μ-loop
+choose-next-requires c κs = let t = this (c .before) in (t .is-open, t .lengths .whole, t .original, t .lengths .optional)
+
+enum-known-best : tie.Need-enum-known-best Inv-loop μ-loop
+enum-known-best c = search needs
+
+-- the record that was chosen
+told :
+    (c : tie.After-best Inv-loop μ-loop)
+    → let l = c .before .before .before .before in
+    let d = begin (l .before) in
+    given (recordTold (c .best .given .0 .0), c .best .given .0 .0 .cost) ≡ chooseAnswer (composeCase (l .before .loop .state) (task d) (l .before .loop .samples))
+told c = sym (ap chooseTold (c .best .given .1)) ∙ c .before .before .choose-next .ensures
+
+place-next-requires : tie.Need-place-next-requires Inv-loop μ-loop
+place-next-requires c κs = turn-placed (this (c .before .before .before .before .before .before)) (told (c .before .before))
+
+store-requires : tie.Need-store-requires Inv-loop μ-loop
+store-requires c κs =
+    let l = c .before .before .before .before .before .before .before .before .before .before .before .before .before in
+    let d = begin (l .before) in
+    let i = l .before .loop .inv in
+    (omega (arith, more l, d .pre .kinds-room, i .2), omega (arith, more l, d .pre .entries-room, i .3), omega (arith, more l, d .pre .offs0-room, i .4), omega (arith, more l, d .pre .offs1-room, i .5))
+
+enum-known-number : tie.Need-enum-known-number Inv-loop μ-loop
+enum-known-number c = search needs
+
+same-length : tie.Need-same-length Inv-loop μ-loop
+same-length c = search needs
+
+same-length-2 : tie.Need-same-length-2 Inv-loop μ-loop
+same-length-2 c = search needs
+
+same-length-3 : tie.Need-same-length-3 Inv-loop μ-loop
+same-length-3 c = search needs
+
+same-length-4 : tie.Need-same-length-4 Inv-loop μ-loop
+same-length-4 c = search needs
+
+same-length-5 : tie.Need-same-length-5 Inv-loop μ-loop
+same-length-5 c = search needs
+
+returns : tie.Need-returns Inv-loop μ-loop
+returns c =
+    let l = c .before .before .before .before .before in
+    let d = begin (l .before) in
+    let a = d .args in
+    let m = turn-refused (this l) (sym (ap chooseTold (c .before .number .given .1)) ∙ c .before .before .before .choose-next .ensures) in
+    let h : choiceRefusal (a .self) (task d) ≡ 0 → ⊥ = λ z. m .1 (m .0 ∙ z) in
+    (ap refused (m .0) ∙ answer-refused (choiceRefusal (a .self) (task d)) (finished (a .self), missing (a .self)) h, left-refused (a .self) (task d) (a .samples .now) (a .kinds .now) (a .entries .now) (a .offs0 .now) (a .offs1 .now) (l .before .loop .inv .6) h)
+
+add-k : tie.Need-add-k Inv-loop μ-loop
+add-k c = let l = c .before .before .before .before .before .before .before .before .before .before .before .before .before .before .before .before .before .before .before .before in omega (arith, more l, begin (l .before) .pre .kinds-room)
+
+loop-less : tie.Need-loop-less Inv-loop μ-loop
+loop-less c = search needs
+
+loop-again : tie.Need-loop-again Inv-loop μ-loop
+loop-again c =
+    let l = c .before .before .before .before .before .before .before .before .before .before .before .before .before .before .before .before .before .before .before .before in
+    let d = begin (l .before) in
+    let a = d .args in
+    let i = l .before .loop .inv in
+    let best = c .before .before .before .before .before .before .before .before .before .before .before .before .before .before .before .before in
+    let placed = c .before .before .before .before .before .before .before .before .before .before .before .before .before .place-next .ensures in
+    let stored = c .before .before .before .before .before .before .store .ensures in (
+      omega (arith, more l),
+      ap length (placed .1) ∙ length-placed _ _ _ _ ∙ i .1,
+      ap length (stored .0) ∙ simp length-set (i .2),
+      search needs,
+      search needs,
+      search needs,
+      going-more (a .self) (task d) (a .samples .now) (a .kinds .now) (a .entries .now) (a .offs0 .now) (a .offs1 .now) (recordTold (best .best .given .0 .0)) (i .6)
+          (omega (arith, more l, d .pre .kinds-room))
+          (omega (arith, more l, d .pre .entries-room))
+          (omega (arith, more l, d .pre .offs0-room))
+          (omega (arith, more l, d .pre .offs1-room))
+          (turn-none (this l) (told best))
+          (turn-chosen (this l) (told best))
+          (placed .0)
+          (placed .1)
+          (stored .0)
+          (stored .1 .0)
+          (stored .1 .1 .0)
+          (stored .1 .1 .1),
+    )
+
+same-length-6 : tie.Need-same-length-6 Inv-loop μ-loop
+same-length-6 c = search needs
+
+same-length-7 : tie.Need-same-length-7 Inv-loop μ-loop
+same-length-7 c = search needs
+
+same-length-8 : tie.Need-same-length-8 Inv-loop μ-loop
+same-length-8 c = search needs
+
+same-length-9 : tie.Need-same-length-9 Inv-loop μ-loop
+same-length-9 c = search needs
+
+same-length-10 : tie.Need-same-length-10 Inv-loop μ-loop
+same-length-10 c = search needs
+
+returns-2 : tie.Need-returns-2 Inv-loop μ-loop
+returns-2 c =
+    let d = begin (c .before) in
+    let a = d .args in
+    let g = c .before .loop .inv .6 in
+    let all : c .before .loop .k ≡ missing (a .self) = omega (arith, c .before .before .before .blocks2 .ensures) in
+    let some : 0 < missing (a .self) = omega (arith, d .pre .is-open .missing) in
+    (told-all (a .self) (task d) (a .samples .now) (a .kinds .now) (a .entries .now) (a .offs0 .now) (a .offs1 .now) g all some (omega (arith, d .pre .is-open .missing)) (omega (arith, c .before .before .before .blocks2 .ensures)), left-all (a .self) (task d) (a .samples .now) (a .kinds .now) (a .entries .now) (a .offs0 .now) (a .offs1 .now) g all some)
+
+pub compose-missing-spec : {M : Type 1} → statement M
+compose-missing-spec =
+    tie.close
+    (tie.spec
+    Inv-loop
+    μ-loop
+    blocks-requires
+    cast-missing
+    sub-missing
+    loop-holds
+    choose-next-requires
+    enum-known-best
+    place-next-requires
+    store-requires
+    enum-known-number
+    same-length
+    same-length-2
+    same-length-3
+    same-length-4
+    same-length-5
+    returns
+    add-k
+    loop-less
+    loop-again
+    same-length-6
+    same-length-7
+    same-length-8
+    same-length-9
+    same-length-10
+    returns-2)

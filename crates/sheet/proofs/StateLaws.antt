@@ -1,0 +1,163 @@
+-- What holds of a state that has a block to place, and of one that the checks pass. Assumes nothing.
+use Prim.Native.Nat.{ℕ, _+_, _*_, _/_, _%_, _≤_, _<_}
+use mathlib.Core.Bool.{Bool, true, false, _&&_, _||_}
+use mathlib.Core.List.{List}
+use mathlib.Core.Logic.{_⊎_, inl, inr, ⊎-elim}
+use mathlib.Core.Path.{_≡_, refl}
+use native.Mathlib.Nat.{mul-le-mul}
+use native.Mathlib.Omega.{arith}
+use borrow.Author.Tests.{eq-eqb, eqb-true, le-leb, leb-true, lt-ltb, ltb-true}
+use lib.Dec.{eqb, leb, ltb}
+use Rattle.arith.proofs.Bools.{both-of, either-of}
+use Rattle.arith.proofs.CheckLaws.{passed}
+use Rattle.depth_table.specs.Table.{tableOk}
+use Rattle.pattern.specs.Size.{sizeOk}
+use Rattle.pattern.proofs.SizeLaws.{size-bounds}
+use Rattle.sheet.specs.Grid.{longest, sideOk, Inside}
+use Rattle.sheet.specs.State.{area, blocksOf, nextX, nextY, sidesOk, lengthsOk, stateRefusal, openRefusal, Open, Lengths}
+use Rattle.sheet.specs.declared.Sheet.{Sheet}
+use Rattle.sheet.proofs.GridLaws.{per-pos, block-inside, rows-few}
+use Rattle.sheet.proofs.RefusalLaws.{unless-kept}
+
+-- an allowed side is n to 128
+pub side-bounds : (n side : ℕ) → sideOk n side ≡ true → (n ≤ side) × (side ≤ longest)
+side-bounds n side h =
+    let a = both-of (leb n side) _ h in
+    let b = both-of (leb side longest) (eqb (side % n) 0) (a .1) in
+    (leb-true n side (a .0), leb-true side longest (b .0))
+
+-- a row has a block
+pub open-across : (S : Sheet) → Open S → 0 < S .width / S .n
+open-across S o = per-pos (S .n) (S .width) (omega (arith, o .low)) (o .wide)
+
+-- a sheet has at most 128 * 128 samples
+pub area-few : (S : Sheet) → Open S → area S ≤ 16384
+area-few S o = mul-le-mul {n₁ = S .width} {m₁ = S .height} {n₂ = 128} {m₂ = 128} (o .narrow) (o .short)
+
+-- the next block lies inside the sheet
+pub next-inside :
+    (S : Sheet) {samples x y : ℕ} → Open S → samples ≡ area S → x ≡ nextX S → y ≡ nextY S → Inside (S .n) (S .width) samples x y
+next-inside S o e p q =
+    rw (e, p, q) (block-inside (S .n) (S .width) (S .height) (S .placed) (omega (arith, o .low)) (o .wide) (o .missing))
+
+pub next-column : (S : Sheet) → Open S → nextX S ≤ 128
+next-column S o =
+    let p = block-inside (S .n) (S .width) (S .height) (S .placed) (omega (arith, o .low)) (o .wide) (o .missing) in
+    omega (arith, p .across, o .narrow)
+
+pub next-row : (S : Sheet) → Open S → nextY S ≤ 16384
+next-row S o =
+    let p = block-inside (S .n) (S .width) (S .height) (S .placed) (omega (arith, o .low)) (o .wide) (o .missing) in
+    omega (arith, rows-few p, area-few S o)
+
+-- ---- the checks of a state
+
+pub lengths-are :
+    (S : Sheet) (samples words count texture : ℕ) → lengthsOk S samples words count texture ≡ true → Lengths S samples words count texture
+unfolding lengthsOk
+lengths-are S samples words count texture h =
+    let a = both-of (eqb samples (area S)) _ h in
+    let b = both-of (eqb texture 0 || eqb texture (area S)) _ (a .1) in
+    let c = both-of (leb count words) (leb count 9999) (b .1) in
+    record {
+      whole = eqb-true samples (area S) (a .0);
+      optional =
+          ⊎-elim (λ e. inl (eqb-true texture 0 e)) (λ e. inr (eqb-true texture (area S) e))
+          (either-of (eqb texture 0) (eqb texture (area S)) (b .0));
+      inside = leb-true count words (c .0);
+      few = leb-true count 9999 (c .1);
+    }
+
+or-true : (b : Bool) → b || true ≡ true
+or-true true = refl
+or-true false = refl
+
+one-of : (t p q : ℕ) → (t ≡ p) ⊎ (t ≡ q) → eqb t p || eqb t q ≡ true
+one-of t p q = ⊎-elim (λ e. rw (eq-eqb t p e)) (λ e. rw (eq-eqb t q e) (or-true (eqb t p)))
+
+pub lengths-do :
+    (S : Sheet) (samples words count texture : ℕ) → Lengths S samples words count texture → lengthsOk S samples words count texture ≡ true
+unfolding lengthsOk
+lengths-do S samples words count texture h =
+    rw (
+      eq-eqb samples (area S) (h .whole),
+      one-of texture 0 (area S) (h .optional),
+      le-leb count words (h .inside),
+      le-leb count 9999 (h .few),
+    )
+
+module _ (S : Sheet) (lengths : Bool) (t : List ℕ) where
+  -- a refusal of the state or the table stays, whatever is checked after it
+  pub open-kept : (rest : ℕ) → (openRefusal S lengths t 0 ≡ 0 → ⊥) → openRefusal S lengths t rest ≡ openRefusal S lengths t 0
+  unfolding openRefusal stateRefusal
+  open-kept rest =
+      unless-kept (sizeOk (S .n)) 0
+      (unless-kept lengths 1
+      (unless-kept (sidesOk S) 7
+      (unless-kept (leb (S .placed) (blocksOf S)) 22
+      (unless-kept (ltb (S .placed) (blocksOf S)) 19
+      (unless-kept (tableOk t) 2 (λ h. absurd (h refl)))))))
+
+  -- where there is none
+  pub record Opened : Type 0 where
+    pub right : lengths ≡ true
+    pub sound : tableOk t ≡ true
+    pub tall : S .n ≤ S .height
+    pub is : Open S
+
+  pub opened : (rest : ℕ) → openRefusal S lengths t rest ≡ 0 → Opened × (rest ≡ 0)
+  unfolding openRefusal stateRefusal
+  opened rest h =
+      let a = passed (sizeOk (S .n)) 0 _ h in
+      let b = passed lengths 1 _ (a .1) in
+      let c = passed (sidesOk S) 7 _ (b .1) in
+      let d = passed (leb (S .placed) (blocksOf S)) 22 _ (c .1) in
+      let e = passed (ltb (S .placed) (blocksOf S)) 19 _ (d .1) in
+      let f = passed (tableOk t) 2 _ (e .1) in
+      let n = size-bounds (S .n) (a .0) in
+      let sides = both-of (sideOk (S .n) (S .width)) (sideOk (S .n) (S .height)) (c .0) in
+      let w = side-bounds (S .n) (S .width) (sides .0) in
+      let v = side-bounds (S .n) (S .height) (sides .1) in (
+        record {
+          right = b .0;
+          sound = f .0;
+          tall = v .0;
+          is =
+              record {
+                size = a .0;
+                sides = c .0;
+                low = n .0;
+                high = n .1;
+                wide = w .0;
+                narrow = w .1;
+                short = v .1;
+                missing = ltb-true (S .placed) (blocksOf S) (e .0);
+              };
+        },
+        f .1,
+      )
+
+  -- such a state is not refused
+  pub open-none : (rest : ℕ) → Open S → lengths ≡ true → tableOk t ≡ true → openRefusal S lengths t rest ≡ rest
+  unfolding openRefusal stateRefusal
+  open-none rest o right sound =
+      rw (
+        o .size,
+        right,
+        o .sides,
+        le-leb (S .placed) (blocksOf S) (omega (arith, o .missing)),
+        lt-ltb (S .placed) (blocksOf S) (o .missing),
+        sound,
+      )
+
+  -- then what is checked after it decides
+  pub open-passed : (rest : ℕ) → openRefusal S lengths t 0 ≡ 0 → openRefusal S lengths t rest ≡ rest
+  unfolding openRefusal stateRefusal
+  open-passed rest h =
+      let a = passed (sizeOk (S .n)) 0 _ h in
+      let b = passed lengths 1 _ (a .1) in
+      let c = passed (sidesOk S) 7 _ (b .1) in
+      let d = passed (leb (S .placed) (blocksOf S)) 22 _ (c .1) in
+      let e = passed (ltb (S .placed) (blocksOf S)) 19 _ (d .1) in
+      let f = passed (tableOk t) 2 _ (e .1) in
+      rw (a .0, b .0, c .0, d .0, e .0, f .0)

@@ -1,0 +1,10 @@
+-- Document 01, "Sheet".
+pub mod Grid
+pub mod Neighbours
+pub mod Samples
+pub mod State
+pub mod Meaning
+pub mod Place
+pub mod Compose
+pub mod Told
+pub mod Examples

@@ -1,0 +1,245 @@
+// Composing: every block still missing is chosen and placed.
+ghost use mathlib.Core.Path.{_≡_};
+ghost use mathlib.Core.Bool.{cond};
+ghost use mathlib.Core.Logic.{_⊎_};
+ghost use Prim.Native.Nat.{_*_, _<_, _≤_, min};
+ghost use lib.ListN.{length, set, take};
+ghost use Rattle.arith.specs.Checks.{answer};
+ghost use Rattle.choice.specs.Answer.{chooseAnswer, chooseTold, recordTold};
+ghost use Rattle.sheet.specs.State.{after, area, finished, Open};
+ghost use Rattle.sheet.specs.Place.{materialOf, textured, nextTexture, placedSamples, placeRefusal};
+ghost use Rattle.sheet.specs.Compose.{missing, taskOf, choiceRefusal, Ready, Leaves, composeCase, recordsLent, composeLengthsOk, composeAnswer, composeAfter, composeField};
+ghost use Rattle.sheet.specs.Told.{composeTold};
+use crate::Composed;
+use crate::Placed;
+use crate::Sheet;
+use crate::neighbours::lesser;
+use crate::samples::SAMPLES;
+use crate::samples::blank;
+use choice::Best;
+use choice::Choice;
+
+// Writes a record at a place of the lent records.
+fn store(
+    kinds: &mut [u32],
+    entries: &mut [u32],
+    offs0: &mut [i32],
+    offs1: &mut [i32],
+    at: usize,
+    best: Best,
+)
+    requires { ⌜ (at < length (now kinds)) × (at < length (now entries)) × (at < length (now offs0)) × (at < length (now offs1)) ⌝ }
+    ensures kind { λ _. ⌜ now (kinds .exit) ≡ set (now (kinds .entry)) at (best .kind) ⌝ }
+    ensures entry { λ _. ⌜ now (entries .exit) ≡ set (now (entries .entry)) at (best .entry) ⌝ }
+    ensures first { λ _. ⌜ now (offs0 .exit) ≡ set (now (offs0 .entry)) at (best .off0) ⌝ }
+    ensures second { λ _. ⌜ now (offs1 .exit) ≡ set (now (offs1 .entry)) at (best .off1) ⌝ }
+{
+    kinds[at] = best.kind;
+    entries[at] = best.entry;
+    let off0 = best.off0;
+    offs0[at] = off0;
+    let off1 = best.off1;
+    offs1[at] = off1;
+}
+
+// As many records are lent as the shortest of the four slices has.
+fn records_lent(kinds: usize, entries: usize, offs0: usize, offs1: usize) -> usize
+    ensures { λ r. ⌜ r ≡ recordsLent kinds entries offs0 offs1 ⌝ }
+{
+    lesser(kinds, lesser(entries, lesser(offs0, offs1)))
+}
+
+impl Sheet {
+    // Whether what is lent to composing fits the sheet.
+    fn compose_lengths_ok(
+        self,
+        samples: usize,
+        words: usize,
+        count: usize,
+        texture: usize,
+        original: usize,
+        records: usize,
+    ) -> bool
+        ensures { λ r. ⌜ r ≡ composeLengthsOk self samples words count texture original records ⌝ }
+    {
+        if !self.lengths_ok(samples, words, count, texture) {
+            return false;
+        }
+        if original != samples {
+            return false;
+        }
+        self.blocks() <= records as u64
+    }
+
+    // The samples of the next block's own texture: n * n, and 0 where none is lent.
+    fn texture_count(self, texture: &[u8]) -> usize
+        requires { ⌜ Open self ⌝ }
+        ensures { λ r. ⌜ r ≡ cond (textured (now (texture .entry))) (self .n * self .n) 0 ⌝ }
+    {
+        if texture.len() == 0 {
+            return 0;
+        }
+        let n = self.n as usize;
+        n * n
+    }
+
+    // The next block's own texture, and more past it.
+    fn texture_next(self, texture: &[u8]) -> [u8; SAMPLES]
+        requires { ⌜ (Open self) × ((length (now texture) ≡ 0) ⊎ (length (now texture) ≡ area self)) ⌝ }
+        ensures { λ r. ⌜ take (cond (textured (now (texture .entry))) (self .n * self .n) 0) r ≡ nextTexture self (now (texture .entry)) ⌝ }
+    {
+        if texture.len() == 0 {
+            return blank();
+        }
+        self.cut_next(texture)
+    }
+
+    // The choice for the next block.
+    fn choose_next(
+        self,
+        samples: &[u8],
+        original: &[u8],
+        list: &[u64],
+        count: usize,
+        table: &[u8],
+        reach: u32,
+        texture: &[u8],
+    ) -> Choice
+        requires { ⌜ (Open self) × (length (now samples) ≡ area self) × (length (now original) ≡ area self) × ((length (now texture) ≡ 0) ⊎ (length (now texture) ≡ area self)) ⌝ }
+        ensures { λ r. ⌜ chooseTold r ≡ chooseAnswer (composeCase self (taskOf (materialOf (now (list .entry)) count (now (table .entry)) (now (texture .entry))) (now (original .entry)) reach) (now (samples .entry))) ⌝ }
+    {
+        let n = self.n as usize;
+        let near = self.near_next(samples);
+        let border = 4 * n;
+        let own = self.cut_next(original);
+        let block = n * n;
+        let light = self.texture_next(texture);
+        let part = self.texture_count(texture);
+        choice::choose(
+            n,
+            list,
+            count,
+            &near[..border],
+            &own[..block],
+            table,
+            reach,
+            &light[..part],
+        )
+    }
+
+    // Places a record that is not refused.
+    fn place_next(
+        self,
+        samples: &mut [u8],
+        list: &[u64],
+        count: usize,
+        table: &[u8],
+        texture: &[u8],
+        best: Best,
+    ) -> Sheet
+        requires { ⌜ placeRefusal self (length (now samples)) (materialOf (now list) count (now table) (now texture)) (recordTold best) ≡ 0 ⌝ }
+        ensures state { λ r. ⌜ r ≡ after 1 self ⌝ }
+        ensures left { λ r. ⌜ now (samples .exit) ≡ placedSamples self (materialOf (now (list .entry)) count (now (table .entry)) (now (texture .entry))) (now (samples .entry)) (recordTold best) ⌝ }
+    {
+        match self.place(
+            samples,
+            list,
+            count,
+            table,
+            texture,
+            best.kind,
+            best.entry,
+            best.off0,
+            best.off1,
+        ) {
+            Placed::Next(state) => state,
+            Placed::Refused(_) => self,
+        }
+    }
+
+    // Chooses, places and records every missing block in turn. The choice for the first block is refused where any would be.
+    fn compose_missing(
+        self,
+        samples: &mut [u8],
+        original: &[u8],
+        list: &[u64],
+        count: usize,
+        table: &[u8],
+        reach: u32,
+        texture: &[u8],
+        kinds: &mut [u32],
+        entries: &mut [u32],
+        offs0: &mut [i32],
+        offs1: &mut [i32],
+    ) -> Composed
+        requires { ⌜ Ready self (taskOf (materialOf (now list) count (now table) (now texture)) (now original) reach) (length (now samples)) (length (now kinds)) (length (now entries)) (length (now offs0)) (length (now offs1)) ⌝ }
+        ensures answered { λ r. ⌜ composeTold r ≡ answer (choiceRefusal self (taskOf (materialOf (now (list .entry)) count (now (table .entry)) (now (texture .entry))) (now (original .entry)) reach)) (finished self, missing self) ⌝ }
+        ensures left { λ r. ⌜ Leaves (choiceRefusal self (taskOf (materialOf (now (list .entry)) count (now (table .entry)) (now (texture .entry))) (now (original .entry)) reach)) self (taskOf (materialOf (now (list .entry)) count (now (table .entry)) (now (texture .entry))) (now (original .entry)) reach) (now (samples .entry)) (now (kinds .entry)) (now (entries .entry)) (now (offs0 .entry)) (now (offs1 .entry)) (now (samples .exit)) (now (kinds .exit)) (now (entries .exit)) (now (offs0 .exit)) (now (offs1 .exit)) ⌝ }
+    {
+        let missing = (self.blocks() - self.placed as u64) as usize;
+        let mut state = self;
+        for k in 0..missing {
+            match state.choose_next(samples, original, list, count, table, reach, texture) {
+                Choice::Chosen(best) => {
+                    state = state.place_next(samples, list, count, table, texture, best);
+                    store(kinds, entries, offs0, offs1, k, best);
+                }
+                Choice::Refused(number) => {
+                    return Composed::Refused(number);
+                }
+            }
+        }
+        Composed::Finished(state, missing)
+    }
+
+    // Chooses and places every block still missing, in sheet order, and writes their records from the first lent one on. Answers the
+    // finished state and how many records were written, or refuses with 1, 2, 8, 23, 20, 3, 5, 4 or 10 and alters nothing.
+    pub fn compose(
+        self,
+        samples: &mut [u8],
+        original: &[u8],
+        list: &[u64],
+        count: usize,
+        table: &[u8],
+        reach: u32,
+        texture: &[u8],
+        kinds: &mut [u32],
+        entries: &mut [u32],
+        offs0: &mut [i32],
+        offs1: &mut [i32],
+    ) -> Composed
+        ensures answered { λ r. ⌜ composeTold r ≡ composeAnswer self (now (samples .entry)) (taskOf (materialOf (now (list .entry)) count (now (table .entry)) (now (texture .entry))) (now (original .entry)) reach) (recordsLent (length (now (kinds .entry))) (length (now (entries .entry))) (length (now (offs0 .entry))) (length (now (offs1 .entry)))) ⌝ }
+        ensures left { λ r. ⌜ now (samples .exit) ≡ composeAfter self (now (samples .entry)) (taskOf (materialOf (now (list .entry)) count (now (table .entry)) (now (texture .entry))) (now (original .entry)) reach) (recordsLent (length (now (kinds .entry))) (length (now (entries .entry))) (length (now (offs0 .entry))) (length (now (offs1 .entry)))) ⌝ }
+        ensures kind { λ r. ⌜ now (kinds .exit) ≡ composeField (λ x. x .kind) self (now (samples .entry)) (taskOf (materialOf (now (list .entry)) count (now (table .entry)) (now (texture .entry))) (now (original .entry)) reach) (recordsLent (length (now (kinds .entry))) (length (now (entries .entry))) (length (now (offs0 .entry))) (length (now (offs1 .entry)))) (now (kinds .entry)) ⌝ }
+        ensures entry { λ r. ⌜ now (entries .exit) ≡ composeField (λ x. x .entry) self (now (samples .entry)) (taskOf (materialOf (now (list .entry)) count (now (table .entry)) (now (texture .entry))) (now (original .entry)) reach) (recordsLent (length (now (kinds .entry))) (length (now (entries .entry))) (length (now (offs0 .entry))) (length (now (offs1 .entry)))) (now (entries .entry)) ⌝ }
+        ensures first { λ r. ⌜ now (offs0 .exit) ≡ composeField (λ x. x .off0) self (now (samples .entry)) (taskOf (materialOf (now (list .entry)) count (now (table .entry)) (now (texture .entry))) (now (original .entry)) reach) (recordsLent (length (now (kinds .entry))) (length (now (entries .entry))) (length (now (offs0 .entry))) (length (now (offs1 .entry)))) (now (offs0 .entry)) ⌝ }
+        ensures second { λ r. ⌜ now (offs1 .exit) ≡ composeField (λ x. x .off1) self (now (samples .entry)) (taskOf (materialOf (now (list .entry)) count (now (table .entry)) (now (texture .entry))) (now (original .entry)) reach) (recordsLent (length (now (kinds .entry))) (length (now (entries .entry))) (length (now (offs0 .entry))) (length (now (offs1 .entry)))) (now (offs1 .entry)) ⌝ }
+    {
+        let records = records_lent(kinds.len(), entries.len(), offs0.len(), offs1.len());
+        let lengths = self.compose_lengths_ok(
+            samples.len(),
+            list.len(),
+            count,
+            texture.len(),
+            original.len(),
+            records,
+        );
+        let refusal = self.open_refusal(lengths, table);
+        if refusal != 0 {
+            return Composed::Refused(refusal);
+        }
+        self.compose_missing(
+            samples,
+            original,
+            list,
+            count,
+            table,
+            reach,
+            texture,
+            kinds,
+            entries,
+            offs0,
+            offs1,
+        )
+    }
+}

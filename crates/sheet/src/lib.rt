@@ -1,0 +1,32 @@
+// A sheet of blocks (document 01, "Sheet").
+mod composing;
+mod neighbours;
+mod placing;
+mod samples;
+mod state;
+
+// The state of a sheet of width by height samples in blocks of n by n: how many of its blocks are placed.
+pub struct Sheet {
+    pub n: u32,
+    pub width: u32,
+    pub height: u32,
+    pub placed: u32,
+}
+
+// What `Sheet::new` answers: the state of an empty sheet, or the number of its refusal.
+pub enum Made {
+    New(Sheet),
+    Refused(u8),
+}
+
+// What `Sheet::place` answers: the next state, or the number of its refusal.
+pub enum Placed {
+    Next(Sheet),
+    Refused(u8),
+}
+
+// What `Sheet::compose` answers: the finished state and the number of records written, or the number of its refusal.
+pub enum Composed {
+    Finished(Sheet, usize),
+    Refused(u8),
+}
