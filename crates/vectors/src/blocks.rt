@@ -6,7 +6,7 @@ use crate::samples::Source;
 use crate::samples::samples;
 
 // The samples of the transposed block.
-pub(crate) fn transposed(n: usize, block: &[u8]) -> [u8; 64] {
+fn transposed(n: usize, block: &[u8]) -> [u8; 64] {
     let mut out = [0u8; 64];
     let b = pattern::transposed(n, pattern::block_of(n, block));
     pattern::write_block(n, b, parts::first_mut(&mut out, parts::area(n)));

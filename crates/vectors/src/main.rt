@@ -1,7 +1,5 @@
-// Prints the vectors that outside/README.md describes, section by section, from the answers of the public calls.
-mod across;
+// Prints the vectors that outside/README.md describes, section by section up to `predictions`, from the answers of the public calls.
 mod blocks;
-mod choices;
 mod contours;
 mod indices;
 mod lists;
@@ -28,8 +26,4 @@ fn main() {
     pattern_refusals::print();
     sides::print();
     predictions::print();
-    choices::lines(4);
-    choices::lines(8);
-    across::lines(4);
-    across::lines(8);
 }

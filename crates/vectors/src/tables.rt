@@ -1,8 +1,6 @@
-// The depth tables of the vectors by number; 0 to 7 are those of section `choices`.
+// The depth tables by number; up to 7 the numbers are those of section `choices`.
 
 const THREE: [u8; 3] = [100, 128, 140];
-
-const SIX: [u8; 6] = [0, 50, 100, 128, 156, 200];
 
 const FALLING: [u8; 2] = [7, 6];
 
@@ -18,7 +16,6 @@ fn value(table: usize, i: usize) -> u8 {
         0 => 128,
         1 => 77,
         2 => THREE[i % 3],
-        4 => SIX[i % 6],
         6 => 5,
         8 => FALLING[i % 2],
         9 => REPEATED[i % 4],
@@ -37,7 +34,6 @@ pub(crate) fn count(table: usize) -> usize {
         6 | 8 | 11 | 12 => 2,
         2 => 3,
         9 => 4,
-        4 => 6,
         3 => 256,
         _ => 257,
     }

@@ -2,7 +2,7 @@
 ghost use Prim.Native.Nat.{_≤_};
 
 // All N * N bits.
-pub(crate) fn all_bits(n: usize) -> u64
+fn all_bits(n: usize) -> u64
     ensures { λ r. ⌜ 1 ≤ r ⌝ }
 {
     if n == 4 {
