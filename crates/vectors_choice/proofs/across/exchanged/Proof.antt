@@ -3,8 +3,8 @@ use Prim.Native.Nat.{_+_, _-_, _*_, _≤_, _<_}
 use native.Mathlib.Nat.{mod-lt}
 use native.Mathlib.Omega.{arith}
 use borrow.Author.Needs.{needs}
-use Rattle.vectors.proofs.across.exchanged.Statement.{statement}
-use Rattle.vectors.proofs.across.exchanged.Tie as tie
+use Rattle.vectors_choice.proofs.across.exchanged.Statement.{statement}
+use Rattle.vectors_choice.proofs.across.exchanged.Tie as tie
 
 abbrev Inv-loop : tie.InvT-loop
 Inv-loop n border out₀ i₀ out i = i ≤ 32

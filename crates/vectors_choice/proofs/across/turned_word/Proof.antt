@@ -3,8 +3,8 @@ use Prim.Native.Nat.{ℕ, _+_, _-_, _*_, _/_, _%_, _≤_, _<_}
 use native.Mathlib.Nat.{mod-lt, mul-le-mul, div-le-self}
 use native.Mathlib.Omega.{arith}
 use borrow.Author.Needs.{needs}
-use Rattle.vectors.proofs.across.turned_word.Statement.{statement}
-use Rattle.vectors.proofs.across.turned_word.Tie as tie
+use Rattle.vectors_choice.proofs.across.turned_word.Statement.{statement}
+use Rattle.vectors_choice.proofs.across.turned_word.Tie as tie
 
 -- the place across the diagonal is a small number
 small : (n k : ℕ) → 1 ≤ n → n ≤ 8 → (k % n * n ≤ 64) × (k / n ≤ k)

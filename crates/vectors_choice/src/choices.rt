@@ -1,12 +1,10 @@
 // Section `choices`: the chosen record of each case, or the refusal.
 ghost use Prim.Native.Nat.{_≤_};
+use crate::fills;
 use crate::lists;
 use crate::output;
 use crate::parts;
-use crate::samples::Source;
-use crate::samples::samples;
 use crate::tables;
-use crate::words;
 use choice::Best;
 use choice::Choice;
 
@@ -128,7 +126,7 @@ fn count_of(list: usize, words: usize) -> usize {
 
 // The words of the lists 3 to 7.
 fn own_words(list: usize, n: usize) -> [u64; 3] {
-    let all = words::all_bits(n);
+    let all = lists::all_bits(n);
     match list {
         3 => [0, all, 0],
         4 | 5 => [0xFFF0, 0x10000, 0],
@@ -202,7 +200,7 @@ pub(crate) fn chosen(c: Case, border: &[u8], original: &[u8], texture: &[u8]) ->
 fn with_texture(c: Case, border: &[u8], original: &[u8]) -> Choice
     requires { ⌜ (1 ≤ c .n) × (c .n ≤ 8) × (c .seed ≤ 598) ⌝ }
 {
-    let bytes = samples(Source::Fill(c.texture), c.n, 30000 + c.seed);
+    let bytes = fills::samples(c.texture, c.n, 30000 + c.seed);
     let length = if c.texture == 15 {
         0
     } else {
@@ -230,11 +228,9 @@ fn line(n: usize, number: usize)
     requires { ⌜ (1 ≤ n) × (n ≤ 8) × (number ≤ 59) ⌝ }
 {
     let c = case_of(n, number);
-    let original = samples(Source::Fill(c.original), n, 10000 + c.seed);
-    let border = samples(Source::Fill(c.border), n, 20000 + c.seed);
-    output::text(b"choice");
-    output::number(n);
-    output::number(number);
+    let original = fills::samples(c.original, n, 10000 + c.seed);
+    let border = fills::samples(c.border, n, 20000 + c.seed);
+    output::head(b"choice", n, number);
     answer(with_texture(
         c,
         parts::first(&border, lent(4 * n, c.fault == 1)),
@@ -243,15 +239,10 @@ fn line(n: usize, number: usize)
     output::end();
 }
 
-fn lines(n: usize)
+pub(crate) fn lines(n: usize)
     requires { ⌜ (1 ≤ n) × (n ≤ 8) ⌝ }
 {
     for number in 0..60 {
         line(n, number);
     }
-}
-
-pub(crate) fn print() {
-    lines(4);
-    lines(8);
 }

@@ -1,13 +1,11 @@
 // Section `diagonal`: the cases of section `choices` with the list as built, chosen as they are and transposed.
 ghost use Prim.Native.Nat.{_≤_};
-use crate::blocks;
 use crate::choices;
 use crate::choices::Case;
+use crate::fills;
 use crate::lists;
 use crate::output;
 use crate::parts;
-use crate::samples::Source;
-use crate::samples::samples;
 use crate::tables;
 use choice::Best;
 use choice::Choice;
@@ -24,9 +22,9 @@ struct Samples {
 fn samples_of(c: Case) -> Samples
     requires { ⌜ (1 ≤ c .n) × (c .n ≤ 8) × (c .seed ≤ 598) ⌝ }
 {
-    let original = samples(Source::Fill(c.original), c.n, 10000 + c.seed);
-    let border = samples(Source::Fill(c.border), c.n, 20000 + c.seed);
-    let texture = samples(Source::Fill(c.texture), c.n, 30000 + c.seed);
+    let original = fills::samples(c.original, c.n, 10000 + c.seed);
+    let border = fills::samples(c.border, c.n, 20000 + c.seed);
+    let texture = fills::samples(c.texture, c.n, 30000 + c.seed);
     let textured = if c.texture == 15 { 0 } else { parts::area(c.n) };
     Samples {
         original,
@@ -47,6 +45,14 @@ fn exchanged(border: [u8; 64], n: usize) -> [u8; 64]
     out
 }
 
+// The samples of the transposed block.
+fn transposed_block(n: usize, block: &[u8]) -> [u8; 64] {
+    let mut out = [0u8; 64];
+    let b = pattern::transposed(n, pattern::block_of(n, block));
+    pattern::write_block(n, b, parts::first_mut(&mut out, parts::area(n)));
+    out
+}
+
 fn transposed(n: usize, s: Samples) -> Samples
     requires { ⌜ (1 ≤ n) × (n ≤ 8) ⌝ }
 {
@@ -54,8 +60,8 @@ fn transposed(n: usize, s: Samples) -> Samples
     let original = s.original;
     let border = s.border;
     let texture = s.texture;
-    let turned_original = blocks::transposed(n, parts::first(&original, area));
-    let turned_texture = blocks::transposed(n, parts::first(&texture, area));
+    let turned_original = transposed_block(n, parts::first(&original, area));
+    let turned_texture = transposed_block(n, parts::first(&texture, area));
     Samples {
         original: turned_original,
         border: exchanged(border, n),
@@ -189,9 +195,7 @@ fn line(c: Case, number: usize)
     let a = chosen(c, s);
     let b = chosen(c, t);
     let border = s.border;
-    output::text(b"diagonal");
-    output::number(c.n);
-    output::number(number);
+    output::head(b"diagonal", c.n, number);
     flag(ends_decide(border, c.n));
     output::number(a.cost as usize);
     output::number(b.cost as usize);
@@ -208,15 +212,10 @@ fn line_if_wanted(n: usize, number: usize)
     }
 }
 
-fn lines(n: usize)
+pub(crate) fn lines(n: usize)
     requires { ⌜ (1 ≤ n) × (n ≤ 8) ⌝ }
 {
     for number in 0..60 {
         line_if_wanted(n, number);
     }
-}
-
-pub(crate) fn print() {
-    lines(4);
-    lines(8);
 }

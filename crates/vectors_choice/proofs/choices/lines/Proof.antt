@@ -1,8 +1,8 @@
 -- `lines` is safe and ends: the measure is the number of cases that are left.
 use Prim.Native.Nat.{_≤_, _-_}
 use borrow.Author.Needs.{needs}
-use Rattle.vectors.proofs.choices.lines.Statement.{statement}
-use Rattle.vectors.proofs.choices.lines.Tie as tie
+use Rattle.vectors_choice.proofs.choices.lines.Statement.{statement}
+use Rattle.vectors_choice.proofs.choices.lines.Tie as tie
 
 abbrev Inv-loop : tie.InvT-loop
 Inv-loop n number₀ number = number ≤ 60
