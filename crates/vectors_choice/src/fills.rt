@@ -7,7 +7,8 @@ fn either(first: bool, a: u8, b: u8) -> u8 {
     if first { a } else { b }
 }
 
-// Whether fill 5, 6, 7, 8, 9, 13 or 14 has the first of its two values at sample i, column x and row y of N.
+// Whether fill 5, 6, 7, 8, 9, 13 or 14 has the first of its two values at sample i, column x and row y. The remainders by 8 and 64
+// change nothing in a block or a border; they bound x + y.
 fn is_first_fill(fill: usize, n: usize, i: usize) -> bool
     requires { ⌜ (1 ≤ n) × (n ≤ 8) ⌝ }
 {
