@@ -15,7 +15,7 @@ use Rattle.choice.specs.Record.{Record}
 use Rattle.sheet.specs.State.{area, blocksOf, finished, lengthsOk, openRefusal}
 use Rattle.sheet.specs.Compose.{missing, Task, samplesBy, fieldBy, recordsLent, composeLengthsOk, choiceRefusal, Ready, composeRefusal, composeAnswer, composeAfter, composeField}
 use Rattle.sheet.specs.declared.Sheet.{Sheet}
-use Rattle.sheet.proofs.StateLaws.{lengths-are, open-kept, open-passed, opened}
+use Rattle.sheet.proofs.StateLaws.{lengths-are, open-kept, open-passed, Opened}
 
 module _ (S : Sheet) (T : Task) (samples records : ℕ) where
   -- whether the lengths hold
@@ -31,30 +31,30 @@ module _ (S : Sheet) (T : Task) (samples records : ℕ) where
       let q : k ≡ openRefusal S lengthsHold (T .material .table) 0 = rw el at e in
       q ∙ sym (open-kept S lengthsHold (T .material .table) (choiceRefusal S T) (λ z. h (q ∙ z)))
 
-  module _ (none : openRefusal S lengthsHold (T .material .table) 0 ≡ 0) where
-    -- past them, the rest decides
-    pub compose-passed : composeRefusal S samples T records ≡ choiceRefusal S T
-    unfolding composeRefusal
-    compose-passed = open-passed S lengthsHold (T .material .table) (choiceRefusal S T) none
+  -- past them, the rest decides
+  pub compose-passed : openRefusal S lengthsHold (T .material .table) 0 ≡ 0 → composeRefusal S samples T records ≡ choiceRefusal S T
+  unfolding composeRefusal
+  compose-passed none = open-passed S lengthsHold (T .material .table) (choiceRefusal S T) none
 
-    pub compose-ready :
-        {kinds entries offs0 offs1 : ℕ} → records ≡ recordsLent kinds entries offs0 offs1 → Ready S T samples kinds entries offs0 offs1
-    unfolding composeLengthsOk
-    compose-ready {kinds} {entries} {offs0} {offs1} e =
-        let o = opened S lengthsHold (T .material .table) 0 none .0 in
-        let a = both-of (lengthsOk S samples (length (T .material .list)) (T .material .count) (length (T .material .texture))) _ (o .right) in
-        let b = both-of (eqb (length (T .original)) (area S)) (leb (blocksOf S) records) (a .1) in
-        let r : blocksOf S ≤ min kinds (min entries (min offs0 offs1)) = rw e at (leb-true (blocksOf S) records (b .1)) in
-        record {
-          is-open = o .is;
-          lengths = lengths-are S samples (length (T .material .list)) (T .material .count) (length (T .material .texture)) (a .0);
-          same = eqb-true (length (T .original)) (area S) (b .0);
-          sound = o .sound;
-          kinds-room = omega arith;
-          entries-room = omega arith;
-          offs0-room = omega arith;
-          offs1-room = omega arith;
-        }
+  -- what then holds
+  pub compose-ready :
+      Opened S lengthsHold (T .material .table) → {kinds entries offs0 offs1 : ℕ} → records ≡ recordsLent kinds entries offs0 offs1
+      → Ready S T samples kinds entries offs0 offs1
+  unfolding composeLengthsOk
+  compose-ready o {kinds} {entries} {offs0} {offs1} e =
+      let a = both-of (lengthsOk S samples (length (T .material .list)) (T .material .count) (length (T .material .texture))) _ (o .right) in
+      let b = both-of (eqb (length (T .original)) (area S)) (leb (blocksOf S) records) (a .1) in
+      let r : blocksOf S ≤ min kinds (min entries (min offs0 offs1)) = rw e at (leb-true (blocksOf S) records (b .1)) in
+      record {
+        is-open = o .is;
+        lengths = lengths-are S samples (length (T .material .list)) (T .material .count) (length (T .material .texture)) (a .0);
+        same = eqb-true (length (T .original)) (area S) (b .0);
+        sound = o .sound;
+        kinds-room = omega arith;
+        entries-room = omega arith;
+        offs0-room = omega arith;
+        offs1-room = omega arith;
+      }
 
 -- ---- the answer and the slices
 

@@ -2,18 +2,19 @@
 use Prim.Native.Nat.{ℕ, zero, suc, _+_, _-_, _*_, _/_, _%_, _≤_, _<_, min}
 use mathlib.Core.Bool.{Bool, true, false, cond}
 use mathlib.Core.List.{List}
-use mathlib.Core.Logic.{_⊎_, inl, inr}
+use mathlib.Core.Logic.{_⊎_, inl, inr, ⊎-elim}
 use mathlib.Core.Path.{_≡_, refl, sym, ap, _∙_}
 use native.Mathlib.Nat.{mul-le-mul-right, suc-mul, mod-lt, div-mul-le-self, div-lt-iff-lt-mul, le-div-iff-mul-le, mul-comm, div-add-mod'}
 use native.Mathlib.Omega.{arith}
 use borrow.Author.Tests.{ltb-true, leb-true}
 use lib.Arith.{digits-div, digits-mod}
 use lib.Dec.{leb, ltb}
-use lib.ListN.{length, getD}
+use lib.ListN.{getD}
 use Rattle.arith.specs.Square.{place}
-use Rattle.arith.proofs.ListLaws.{length-listOf, listOf-at, listOf-ext}
+use Rattle.arith.proofs.ListLaws.{listOf-at, listOf-ext}
 use Rattle.sheet.specs.Grid.{blocks, blockX, blockY, blockHolding, Inside}
 use Rattle.sheet.specs.Neighbours.{Source, sample, nowhere, readFrom, run, leftCount, topCount, leftOwn, topOwn, leftSource, topSource, sourceAt, neighboursAt, neighbours}
+use Rattle.sheet.specs.Laws.{SameBefore, SampleBefore}
 use Rattle.sheet.proofs.GridLaws.{per-pos, block-inside, place-in}
 
 -- a sample of a block before block k, in a sheet of w by h samples; what is read nowhere counts too
@@ -127,3 +128,29 @@ module _ (n w h k : ℕ) (some : 1 ≤ n) (wide : n ≤ w) (inner : k < blocks n
       go : (b : Bool) → Earlier n w h k (cond b (leftSource n w x y i) (topSource n w x y (i - 2 * n)))
       go true = left i _ (top 0 nowhere tt)
       go false = top (i - 2 * n) _ (left 0 nowhere tt)
+
+  -- ---- the laws
+
+  -- samples that are the same in every block before k give the same neighbours
+  pub neighbours-same : (s t : List ℕ) → SameBefore n w (w * h) k s t → neighbours n w k s ≡ neighbours n w k t
+  unfolding neighboursAt
+  neighbours-same s t same = listOf-ext _ _ (4 * n) (λ i _. go (sourceAt n w (blockX n w k) (blockY n w k) i) (source-earlier i))
+    where
+      go : (c : Source) → Earlier n w h k c → readFrom s c ≡ readFrom t c
+      go (sample j) e = same j (e .0) (e .1)
+      go nowhere e = refl
+
+  -- every neighbour is 128 or a sample of a block before k
+  pub neighbour-from :
+      (s : List ℕ) (i : ℕ) → i < 4 * n
+      → (getD (neighbours n w k s) i 0 ≡ 128) ⊎ SampleBefore n w (w * h) k s (getD (neighbours n w k s) i 0)
+  unfolding neighboursAt
+  neighbour-from s i l = go (sourceAt n w (blockX n w k) (blockY n w k) i) (source-earlier i) (listOf-at _ 0 (4 * n) i l)
+    where
+      go : {v : ℕ} (c : Source) → Earlier n w h k c → v ≡ readFrom s c → (v ≡ 128) ⊎ SampleBefore n w (w * h) k s v
+      go (sample j) e q = inr (record { index = j; inside = e .0; before = e .1; there = q })
+      go nowhere e q = inl q
+
+  -- hence a byte, where the samples are bytes
+  pub neighbour-byte : (s : List ℕ) → ((j : ℕ) → getD s j 0 < 256) → (i : ℕ) → i < 4 * n → getD (neighbours n w k s) i 0 < 256
+  neighbour-byte s bytes i l = ⊎-elim (λ e. omega arith) (λ p. omega (arith, p .there, bytes (p .index))) (neighbour-from s i l)

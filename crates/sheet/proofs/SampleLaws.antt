@@ -72,6 +72,13 @@ written-in n w x y b s i r p hi hr =
     listOf-at (writtenAt n w x y b s) 0 (length s) (place w (x + i) (y + r)) (sample-in i r p hi hr)
     ∙ rw (covers-here n w x y i r (p .across) hi hr, index-here n w x y i r (p .across) hi)
 
+-- the same by the sample's own place
+pub written-covered :
+    (n w x y : ℕ) (b s : List ℕ) (j : ℕ) → j < length s → covers n x y (j % w) (j / w) ≡ true
+    → getD (written n w x y b s) j 0 ≡ getD b (place n (j % w - x) (j / w - y)) 0
+unfolding written
+written-covered n w x y b s j l e = listOf-at (writtenAt n w x y b s) 0 (length s) j l ∙ rw e
+
 -- every other sample keeps its value
 pub written-others :
     (n w x y : ℕ) (b s : List ℕ) (j : ℕ) → j < length s → covers n x y (j % w) (j / w) ≡ false

@@ -4,7 +4,7 @@ use mathlib.Core.Bool.{Bool, true, false, _&&_, _||_}
 use mathlib.Core.List.{List}
 use mathlib.Core.Logic.{_⊎_, inl, inr, ⊎-elim}
 use mathlib.Core.Path.{_≡_, refl}
-use native.Mathlib.Nat.{mul-le-mul}
+use native.Mathlib.Nat.{mul-le-mul, div-add-mod'}
 use native.Mathlib.Omega.{arith}
 use borrow.Author.Tests.{eq-eqb, eqb-true, le-leb, leb-true, lt-ltb, ltb-true}
 use lib.Dec.{eqb, leb, ltb}
@@ -25,6 +25,13 @@ side-bounds n side h =
     let a = both-of (leb n side) _ h in
     let b = both-of (leb side longest) (eqb (side % n) 0) (a .1) in
     (leb-true n side (a .0), leb-true side longest (b .0))
+
+-- and a multiple of n
+pub multiple : (n side : ℕ) → sideOk n side ≡ true → side / n * n ≡ side
+multiple n side h =
+    let a = both-of (leb n side) _ h in
+    let b = both-of (leb side longest) (eqb (side % n) 0) (a .1) in
+    omega (arith, div-add-mod' side n, eqb-true (side % n) 0 (b .1))
 
 -- a row has a block
 pub open-across : (S : Sheet) → Open S → 0 < S .width / S .n

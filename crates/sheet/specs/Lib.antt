@@ -7,4 +7,5 @@ pub mod Meaning
 pub mod Place
 pub mod Compose
 pub mod Told
+pub mod Laws
 pub mod Examples

@@ -176,20 +176,21 @@ impl Sheet {
         ensures answered { λ r. ⌜ composeTold r ≡ answer (choiceRefusal self (taskOf (materialOf (now (list .entry)) count (now (table .entry)) (now (texture .entry))) (now (original .entry)) reach)) (finished self, missing self) ⌝ }
         ensures left { λ r. ⌜ Leaves (choiceRefusal self (taskOf (materialOf (now (list .entry)) count (now (table .entry)) (now (texture .entry))) (now (original .entry)) reach)) self (taskOf (materialOf (now (list .entry)) count (now (table .entry)) (now (texture .entry))) (now (original .entry)) reach) (now (samples .entry)) (now (kinds .entry)) (now (entries .entry)) (now (offs0 .entry)) (now (offs1 .entry)) (now (samples .exit)) (now (kinds .exit)) (now (entries .exit)) (now (offs0 .exit)) (now (offs1 .exit)) ⌝ }
     {
-        let missing = (self.blocks() - self.placed as u64) as usize;
+        let first = self.placed as usize;
+        let last = self.blocks() as usize;
         let mut state = self;
-        for k in 0..missing {
+        for block in first..last {
             match state.choose_next(samples, original, list, count, table, reach, texture) {
                 Choice::Chosen(best) => {
                     state = state.place_next(samples, list, count, table, texture, best);
-                    store(kinds, entries, offs0, offs1, k, best);
+                    store(kinds, entries, offs0, offs1, block - first, best);
                 }
                 Choice::Refused(number) => {
                     return Composed::Refused(number);
                 }
             }
         }
-        Composed::Finished(state, missing)
+        Composed::Finished(state, last - first)
     }
 
     // Chooses and places every block still missing, in sheet order, and writes their records from the first lent one on. Answers the

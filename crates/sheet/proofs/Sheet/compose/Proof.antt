@@ -8,6 +8,7 @@ use Rattle.choice.specs.Record.{Record}
 use Rattle.sheet.specs.State.{openRefusal}
 use Rattle.sheet.specs.Place.{materialOf}
 use Rattle.sheet.specs.Compose.{Task, taskOf, recordsLent, choiceRefusal, composeRefusal}
+use Rattle.sheet.proofs.StateLaws.{Opened, opened}
 use Rattle.sheet.proofs.EndLaws.{lengthsHold, compose-kept, compose-passed, compose-ready, told-refused, samples-refused, field-refused, told-by, samples-by, field-by}
 use Rattle.sheet.proofs.Sheet.compose.Statement.{statement}
 use Rattle.sheet.proofs.Sheet.compose.Tie as tie
@@ -68,11 +69,17 @@ none c =
     ∙ sym (c .before .open-refusal .ensures)
     ∙ c .if1 .left
 
+accepted :
+    (c : tie.Else1)
+    → let d = c .before .before .before .before .before .before .before .before .before .before .before in
+    Opened (d .args .self) (lengthsHold (d .args .self) (task d) (length (d .args .samples .now)) (records d)) (d .args .table .now)
+accepted c = let d = c .before .before .before .before .before .before .before .before .before .before .before in opened (d .args .self) (lengthsHold (d .args .self) (task d) (length (d .args .samples .now)) (records d)) (d .args .table .now) 0 (none c) .0
+
 compose-missing-requires : tie.Need-compose-missing-requires
 compose-missing-requires c κs =
     let e = c .before .before .before .before .before in
     let d = e .before .before .before .before .before .before .before .before .before .before .before in
-    compose-ready (d .args .self) (task d) (length (d .args .samples .now)) (records d) (none e) refl
+    compose-ready (d .args .self) (task d) (length (d .args .samples .now)) (records d) (accepted e) refl
 
 same-length : tie.Need-same-length
 same-length c = search needs

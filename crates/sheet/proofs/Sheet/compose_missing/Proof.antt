@@ -1,5 +1,5 @@
 -- `compose_missing` meets its contract: the loop keeps `Going`.
-use Prim.Native.Nat.{_-_, _≤_, _<_}
+use Prim.Native.Nat.{_+_, _-_, _≤_, _<_}
 use mathlib.Core.Path.{_≡_, refl, sym, ap, _∙_}
 use native.Mathlib.Omega.{arith}
 use borrow.Author.Needs.{needs}
@@ -16,18 +16,22 @@ use Rattle.sheet.proofs.Sheet.compose_missing.Statement.{statement}
 use Rattle.sheet.proofs.Sheet.compose_missing.Tie as tie
 
 abbrev Inv-loop : tie.InvT-loop
-Inv-loop samples₀ original list count table reach texture kinds₀ entries₀ offs0₀ offs1₀ missing state₀ k₀ samples kinds entries offs0 offs1 state k =
-    (k ≤ missing)
+Inv-loop samples₀ original list count table reach texture kinds₀ entries₀ offs0₀ offs1₀ first last state₀ block₀ samples kinds entries offs0 offs1 state block =
+    (first ≤ block)
+    × (block ≤ last)
     × (length samples ≡ length samples₀)
     × (length kinds ≡ length kinds₀)
     × (length entries ≡ length entries₀)
     × (length offs0 ≡ length offs0₀)
     × (length offs1 ≡ length offs1₀)
-    × Going state₀ (taskOf (materialOf list count table texture) original reach) samples₀ kinds₀ entries₀ offs0₀ offs1₀ k state samples kinds entries offs0 offs1
+    × Going state₀ (taskOf (materialOf list count table texture) original reach) samples₀ kinds₀ entries₀ offs0₀ offs1₀ (block - first) state samples kinds entries offs0 offs1
 
 abbrev μ-loop : tie.MeasureT-loop
-μ-loop samples₀ original list count table reach texture kinds₀ entries₀ offs0₀ offs1₀ missing state₀ k₀ samples kinds entries offs0 offs1 state k =
-    missing - k
+μ-loop samples₀ original list count table reach texture kinds₀ entries₀ offs0₀ offs1₀ first last state₀ block₀ samples kinds entries offs0 offs1 state block =
+    last - block
+
+cast-first : tie.Need-cast-first Inv-loop μ-loop
+cast-first c = search needs
 
 -- the call's arguments, and the task that they make
 abbrev begin : tie.At-loop Inv-loop μ-loop → tie.Start Inv-loop μ-loop
@@ -39,21 +43,16 @@ task d = taskOf (materialOf (d .args .list .now) (d .args .count) (d .args .tabl
 blocks-requires : tie.Need-blocks-requires Inv-loop μ-loop
 blocks-requires c κs = search needs
 
-cast-missing : tie.Need-cast-missing Inv-loop μ-loop
-cast-missing c = search needs
-
-sub-missing : tie.Need-sub-missing Inv-loop μ-loop
-sub-missing c = omega (arith, c .before .blocks2 .ensures, c .before .before .before .before .before .before .before .before .before .pre .is-open .missing)
-
 loop-holds : tie.Need-loop-holds Inv-loop μ-loop
 loop-holds c =
     let d = c .before .before .before .before .before .before .before .before .before in
     let a = d .args in
-    (omega arith, refl, refl, refl, refl, refl, going-none (a .self) (task d) (a .samples .now) (a .kinds .now) (a .entries .now) (a .offs0 .now) (a .offs1 .now))
+    let e : a .self .placed - a .self .placed ≡ 0 = omega arith in
+    (omega arith, omega (arith, d .pre .is-open .missing, c .blocks2 .ensures), refl, refl, refl, refl, refl, rw e (going-none (a .self) (task d) (a .samples .now) (a .kinds .now) (a .entries .now) (a .offs0 .now) (a .offs1 .now)))
 
 -- what holds in a turn
-more : (c : tie.In-loop Inv-loop μ-loop) → c .before .loop .k < missing (begin (c .before) .args .self)
-more c = omega (arith, c .before .before .before .blocks2 .ensures, c .loop-test .taken)
+more : (c : tie.In-loop Inv-loop μ-loop) → c .before .loop .block - begin (c .before) .args .self .placed < missing (begin (c .before) .args .self)
+more c = omega (arith, c .before .before .blocks2 .ensures, c .loop-test .taken, c .before .loop .inv .0)
 
 this :
     (c : tie.In-loop Inv-loop μ-loop)
@@ -61,7 +60,7 @@ this :
 this c =
     let d = begin (c .before) in
     let a = d .args in
-    turn (a .self) (task d) (a .samples .now) (a .kinds .now) (a .entries .now) (a .offs0 .now) (a .offs1 .now) (d .pre) (c .before .loop .inv .6) (more c) (c .before .loop .inv .1)
+    turn (a .self) (task d) (a .samples .now) (a .kinds .now) (a .entries .now) (a .offs0 .now) (a .offs1 .now) (d .pre) (c .before .loop .inv .7) (more c) (c .before .loop .inv .2)
 
 choose-next-requires : tie.Need-choose-next-requires Inv-loop μ-loop
 choose-next-requires c κs = let t = this (c .before) in (t .is-open, t .lengths .whole, t .original, t .lengths .optional)
@@ -80,12 +79,15 @@ told c = sym (ap chooseTold (c .best .given .1)) ∙ c .before .before .choose-n
 place-next-requires : tie.Need-place-next-requires Inv-loop μ-loop
 place-next-requires c κs = turn-placed (this (c .before .before .before .before .before .before)) (told (c .before .before))
 
+sub-store : tie.Need-sub-store Inv-loop μ-loop
+sub-store c = let l = c .before .before .before .before .before .before .before .before .before .before .before .before .before in omega (arith, l .before .loop .inv .0)
+
 store-requires : tie.Need-store-requires Inv-loop μ-loop
 store-requires c κs =
     let l = c .before .before .before .before .before .before .before .before .before .before .before .before .before in
     let d = begin (l .before) in
     let i = l .before .loop .inv in
-    (omega (arith, more l, d .pre .kinds-room, i .2), omega (arith, more l, d .pre .entries-room, i .3), omega (arith, more l, d .pre .offs0-room, i .4), omega (arith, more l, d .pre .offs1-room, i .5))
+    (omega (arith, more l, d .pre .kinds-room, i .3), omega (arith, more l, d .pre .entries-room, i .4), omega (arith, more l, d .pre .offs0-room, i .5), omega (arith, more l, d .pre .offs1-room, i .6))
 
 enum-known-number : tie.Need-enum-known-number Inv-loop μ-loop
 enum-known-number c = search needs
@@ -112,10 +114,10 @@ returns c =
     let a = d .args in
     let m = turn-refused (this l) (sym (ap chooseTold (c .before .number .given .1)) ∙ c .before .before .before .choose-next .ensures) in
     let h : choiceRefusal (a .self) (task d) ≡ 0 → ⊥ = λ z. m .1 (m .0 ∙ z) in
-    (ap refused (m .0) ∙ answer-refused (choiceRefusal (a .self) (task d)) (finished (a .self), missing (a .self)) h, left-refused (a .self) (task d) (a .samples .now) (a .kinds .now) (a .entries .now) (a .offs0 .now) (a .offs1 .now) (l .before .loop .inv .6) h)
+    (ap refused (m .0) ∙ answer-refused (choiceRefusal (a .self) (task d)) (finished (a .self), missing (a .self)) h, left-refused (a .self) (task d) (a .samples .now) (a .kinds .now) (a .entries .now) (a .offs0 .now) (a .offs1 .now) (l .before .loop .inv .7) h)
 
-add-k : tie.Need-add-k Inv-loop μ-loop
-add-k c = let l = c .before .before .before .before .before .before .before .before .before .before .before .before .before .before .before .before .before .before .before .before in omega (arith, more l, begin (l .before) .pre .kinds-room)
+add-block : tie.Need-add-block Inv-loop μ-loop
+add-block c = let l = c .before .before .before .before .before .before .before .before .before .before .before .before .before .before .before .before .before .before .before .before in omega (arith, l .loop-test .taken)
 
 loop-less : tie.Need-loop-less Inv-loop μ-loop
 loop-less c = search needs
@@ -128,14 +130,16 @@ loop-again c =
     let i = l .before .loop .inv in
     let best = c .before .before .before .before .before .before .before .before .before .before .before .before .before .before .before .before in
     let placed = c .before .before .before .before .before .before .before .before .before .before .before .before .before .place-next .ensures in
-    let stored = c .before .before .before .before .before .before .store .ensures in (
-      omega (arith, more l),
-      ap length (placed .1) ∙ length-placed _ _ _ _ ∙ i .1,
-      ap length (stored .0) ∙ simp length-set (i .2),
+    let stored = c .before .before .before .before .before .before .store .ensures in
+    let e : l .before .loop .block + 1 - a .self .placed ≡ l .before .loop .block - a .self .placed + 1 = omega (arith, i .0) in (
+      omega (arith, i .0),
+      omega (arith, l .loop-test .taken),
+      ap length (placed .1) ∙ length-placed _ _ _ _ ∙ i .2,
+      ap length (stored .0) ∙ simp length-set (i .3),
       search needs,
       search needs,
       search needs,
-      going-more (a .self) (task d) (a .samples .now) (a .kinds .now) (a .entries .now) (a .offs0 .now) (a .offs1 .now) (recordTold (best .best .given .0 .0)) (i .6)
+      rw e (going-more (a .self) (task d) (a .samples .now) (a .kinds .now) (a .entries .now) (a .offs0 .now) (a .offs1 .now) (recordTold (best .best .given .0 .0)) (i .7)
           (omega (arith, more l, d .pre .kinds-room))
           (omega (arith, more l, d .pre .entries-room))
           (omega (arith, more l, d .pre .offs0-room))
@@ -147,8 +151,11 @@ loop-again c =
           (stored .0)
           (stored .1 .0)
           (stored .1 .1 .0)
-          (stored .1 .1 .1),
+          (stored .1 .1 .1)),
     )
+
+sub-t36 : tie.Need-sub-t36 Inv-loop μ-loop
+sub-t36 c = omega (arith, begin (c .before) .pre .is-open .missing, c .before .before .blocks2 .ensures)
 
 same-length-6 : tie.Need-same-length-6 Inv-loop μ-loop
 same-length-6 c = search needs
@@ -169,10 +176,10 @@ returns-2 : tie.Need-returns-2 Inv-loop μ-loop
 returns-2 c =
     let d = begin (c .before) in
     let a = d .args in
-    let g = c .before .loop .inv .6 in
-    let all : c .before .loop .k ≡ missing (a .self) = omega (arith, c .before .before .before .blocks2 .ensures) in
+    let g = c .before .loop .inv .7 in
+    let all : c .before .loop .block - a .self .placed ≡ missing (a .self) = omega (arith, c .before .before .blocks2 .ensures, c .before .loop .inv .1, c .loop-test .left) in
     let some : 0 < missing (a .self) = omega (arith, d .pre .is-open .missing) in
-    (told-all (a .self) (task d) (a .samples .now) (a .kinds .now) (a .entries .now) (a .offs0 .now) (a .offs1 .now) g all some (omega (arith, d .pre .is-open .missing)) (omega (arith, c .before .before .before .blocks2 .ensures)), left-all (a .self) (task d) (a .samples .now) (a .kinds .now) (a .entries .now) (a .offs0 .now) (a .offs1 .now) g all some)
+    (told-all (a .self) (task d) (a .samples .now) (a .kinds .now) (a .entries .now) (a .offs0 .now) (a .offs1 .now) g all some (omega (arith, d .pre .is-open .missing)) (omega (arith, c .before .before .blocks2 .ensures)), left-all (a .self) (task d) (a .samples .now) (a .kinds .now) (a .entries .now) (a .offs0 .now) (a .offs1 .now) g all some)
 
 pub compose-missing-spec : {M : Type 1} → statement M
 compose-missing-spec =
@@ -180,13 +187,13 @@ compose-missing-spec =
     (tie.spec
     Inv-loop
     μ-loop
+    cast-first
     blocks-requires
-    cast-missing
-    sub-missing
     loop-holds
     choose-next-requires
     enum-known-best
     place-next-requires
+    sub-store
     store-requires
     enum-known-number
     same-length
@@ -195,9 +202,10 @@ compose-missing-spec =
     same-length-4
     same-length-5
     returns
-    add-k
+    add-block
     loop-less
     loop-again
+    sub-t36
     same-length-6
     same-length-7
     same-length-8
