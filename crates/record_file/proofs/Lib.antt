@@ -1,0 +1,8 @@
+-- Laws of the record file.
+pub mod MeaningLaws
+pub mod FileLaws
+pub mod RefusalLaws
+pub mod SpaceLaws
+pub mod WriteLaws
+pub mod ReadLaws
+pub mod RoundTrip

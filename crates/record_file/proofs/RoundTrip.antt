@@ -1,0 +1,160 @@
+-- Document 01, "House file": both round trips, for every list, count, table and records. Assumes nothing.
+use Prim.Native.Nat.{ℕ, _≤_, _<_}
+use mathlib.Core.Path.{_≡_, refl, sym, _∙_, ap}
+use mathlib.Core.Bool.{Bool, true, false, _||_}
+use mathlib.Core.List.{List, []}
+use mathlib.Core.Logic.{_⊎_, ⊎-elim}
+use native.Mathlib.Omega.{arith}
+use borrow.Author.Tests.{leb-true, lt-ltb, le-leb, eq-eqb}
+use lib.Dec.{eqb, leb}
+use lib.ListN.{length, getD}
+use Rattle.arith.specs.Checks.{unless}
+use Rattle.arith.specs.Lists.{listOf}
+use Rattle.arith.proofs.Bools.{both-of}
+use Rattle.arith.proofs.ListLaws.{length-listOf, listOf-at, listOf-ext, listOf-own}
+use Rattle.depth_table.specs.Table.{tableOk, bytes, rising}
+use Rattle.sheet.specs.declared.Sheet.{Sheet}
+use Rattle.sheet.specs.Grid.{blocks}
+use Rattle.sheet.specs.State.{stateOf, area, blocksOf}
+use Rattle.sheet.specs.Place.{textured}
+use Rattle.record_text.specs.declared.cursor.RecordFields.{RecordFields}
+use Rattle.record_text.specs.Lines.{Lined, read, judged}
+use Rattle.record_text.proofs.LinesLaws.{refused-read}
+use Rattle.record_file.specs.Text.{fileText, sizeFieldsOf}
+use Rattle.record_file.specs.Reading.{File, fileOf, Aids, aidsOf, sizeMeaning, fileLines, readLengthsOk, readFile}
+use Rattle.record_file.specs.Writing.{Source, sourceOf, spaceFor, writeRefusal, writtenText}
+use Rattle.record_file.proofs.MeaningLaws.{written-sound, read-sound}
+use Rattle.record_file.proofs.FileLaws.{noRecord, FileSound, FileRead, size-small, file-reads, file-wrote}
+use Rattle.record_file.proofs.RefusalLaws.{accepted-parts, parts-accepted}
+
+-- the lengths that reading checks first
+pub record ReadLengths (samples records words count : ℕ) : Type 0 where
+  pub samples-lent : 16384 ≤ samples
+  pub records-lent : 1024 ≤ records
+  pub inside : count ≤ words
+  pub few : count ≤ 9999
+
+pub read-lengths : (samples records words count : ℕ) → readLengthsOk samples records words count ≡ true → ReadLengths samples records words count
+unfolding readLengthsOk
+read-lengths samples records words count h =
+    let a = both-of (leb 16384 samples) _ h in
+    let b = both-of (leb 1024 records) _ (a .1) in
+    let c = both-of (leb count words) (leb count 9999) (b .1) in
+    record { samples-lent = leb-true _ _ (a .0); records-lent = leb-true _ _ (b .0); inside = leb-true _ _ (c .0); few = leb-true _ _ (c .1) }
+
+pub lengths-read : (samples records words count : ℕ) → ReadLengths samples records words count → readLengthsOk samples records words count ≡ true
+unfolding readLengthsOk
+lengths-read samples records words count r =
+    rw (le-leb _ _ (r .samples-lent), le-leb _ _ (r .records-lent), le-leb _ _ (r .inside), le-leb _ _ (r .few))
+
+-- what a source holds, as a file
+abbrev pub heldBy : Source → File
+heldBy W = fileOf (W .sheet .n) (W .sheet .width) (W .sheet .height) (W .table) (listOf (W .record-at) (blocksOf (W .sheet)))
+
+-- the parts of a sound table
+table-parts : (t : List ℕ) → tableOk t ≡ true → (leb 1 (length t) ≡ true) × (leb (length t) 256 ≡ true) × (bytes t ≡ true) × (rising 0 t ≡ true)
+unfolding tableOk
+table-parts t h =
+    let a = both-of (leb 1 (length t)) _ h in
+    let b = both-of (leb (length t) 256) _ (a .1) in
+    let c = both-of (bytes t) (rising 0 t) (b .1) in
+    (a .0, b .0, c .0, c .1)
+
+parts-table : (t : List ℕ) → 1 ≤ length t → length t ≤ 256 → bytes t ≡ true → rising 0 t ≡ true → tableOk t ≡ true
+unfolding tableOk
+parts-table t a b c d = rw (le-leb _ _ a, le-leb _ _ b, c, d)
+
+module _
+    (W : Source) (list : List ℕ) (count records space : ℕ) (accepted : writeRefusal W list count records space ≡ 0)
+    (texture : List ℕ) (fits : (length texture ≡ 0) ⊎ (length texture ≡ area (W .sheet)))
+    (lent : (i : ℕ) → i < blocksOf (W .sheet) → W .record-at i .kind ≡ 1 → 0 < length texture)
+  where
+    texture-fits : (eqb (length texture) 0 || eqb (length texture) (area (W .sheet))) ≡ true
+    texture-fits = ⊎-elim (λ e. rw (eq-eqb (length texture) 0 e)) (λ e. either (eqb (length texture) 0) (eq-eqb (length texture) (area (W .sheet)) e)) fits
+      where
+        either : (a : Bool) {b : Bool} → b ≡ true → (a || b) ≡ true
+        either true e = refl
+        either false e = e
+
+    held-sound : FileSound (aidsOf list count texture) (heldBy W)
+    unfolding sizeMeaning
+    held-sound =
+        let p = accepted-parts W list count records space accepted in
+        let t = table-parts (W .table) (p .sound) in
+        record {
+          size = rw (p .size, p .sides, texture-fits, t .0, t .1);
+          values = t .2;
+          rises = t .3;
+          whole = length-listOf (W .record-at) (blocksOf (W .sheet));
+          each = λ i h.
+              let k : i < blocksOf (W .sheet) = omega (arith, length-listOf (W .record-at) (blocksOf (W .sheet))) in
+              rw (listOf-at (W .record-at) noRecord (blocksOf (W .sheet)) i k)
+              (read-sound (W .sheet .n) list count (textured texture) (W .record-at i) (λ e. lt-ltb 0 (length texture) (lent i k e)) (p .each i k));
+        }
+
+    -- A written file, read with the same list and count, and with texture where it holds kind 1, gives back what was written.
+    pub written-then-read :
+        (samples records-lent : ℕ) → 16384 ≤ samples → 1024 ≤ records-lent
+        → readFile (aidsOf list count texture) samples records-lent (writtenText W) ≡ read (heldBy W) []
+    unfolding readFile
+    written-then-read samples records-lent h l =
+        let p = accepted-parts W list count records space accepted in
+        let r : ReadLengths samples records-lent (length list) count = record { samples-lent = h; records-lent = l; inside = p .lengths .inside; few = p .lengths .few } in
+        rw (lengths-read samples records-lent (length list) count r)
+        (file-reads (aidsOf list count texture) (heldBy W) (p .lengths .few) held-sound)
+
+-- ---- and back
+
+judged-read : {B : Type 0} (b : Bool) (next : Lined B) {x : B} {t : List ℕ} → judged (unless b 2 0) 0 next ≡ read x t → (b ≡ true) × (next ≡ read x t)
+judged-read true next q = (refl, q)
+judged-read false next q = refused-read q
+
+-- what an accepted file says
+pub read-parts :
+    (A : Aids) (samples lent : ℕ) (F : File) (s t : List ℕ) → readFile A samples lent s ≡ read F t
+    → ReadLengths samples lent (length (A .list)) (A .count) × FileRead A F s t
+unfolding readFile
+read-parts A samples lent F s t q =
+    let p = judged-read (readLengthsOk samples lent (length (A .list)) (A .count)) (fileLines A s) q in
+    (read-lengths samples lent (length (A .list)) (A .count) (p .0), file-wrote A F s t (p .1))
+
+-- the finished state of a file
+abbrev pub sheetOf : File → Sheet
+sheetOf F = stateOf (F .n) (F .width) (F .height) (blocks (F .n) (F .width) (F .height))
+
+-- A file that is accepted is byte for byte the one that is written of what was read: writing refuses nothing, and its text is the file.
+module _
+    (A : Aids) (samples lent : ℕ) (F : File) (s t : List ℕ) (accepted : readFile A samples lent s ≡ read F t)
+    (at : ℕ → RecordFields) (same : (i : ℕ) → i < length (F .records) → at i ≡ getD (F .records) i noRecord)
+  where
+    pub read-then-text : writtenText (sourceOf (sheetOf F) (F .table) at) ≡ s
+    read-then-text =
+        let p = read-parts A samples lent F s t accepted .1 in
+        let w = p .sound .whole in
+        let e : listOf at (blocks (F .n) (F .width) (F .height)) ≡ F .records =
+        listOf-ext at (λ i. getD (F .records) i noRecord) (blocks (F .n) (F .width) (F .height)) (λ i l. same i (omega (arith, w)))
+        ∙ listOf-own (F .records) noRecord (blocks (F .n) (F .width) (F .height)) w in
+        ap (fileText (F .n) (F .width) (F .height) (F .table)) e ∙ sym (p .text)
+
+    pub read-then-written :
+        (records space : ℕ) → length (F .records) ≤ records → spaceFor (length (F .table)) (length (F .records)) ≤ space
+        → writeRefusal (sourceOf (sheetOf F) (F .table) at) (A .list) (A .count) records space ≡ 0
+    read-then-written records space enough room =
+        let q = read-parts A samples lent F s t accepted in
+        let f = q .1 .sound in
+        let w = f .whole in
+        let z = size-small (length (A .texture)) (sizeFieldsOf (F .n) (F .width) (F .height) (length (F .table))) (f .size) in
+        parts-accepted (sourceOf (sheetOf F) (F .table) at) (A .list) (A .count) records space
+        (record {
+          size = z .size;
+          lengths = record { inside = q .0 .inside; few = q .0 .few; enough = rw w at enough; room = rw w at room };
+          sides = z .sides;
+          done = refl;
+          sound = parts-table (F .table) (z .some) (z .values) (f .values) (f .rises);
+          each = λ i l.
+              let k : i < length (F .records) = omega (arith, w) in
+              rw (same i k) (written-sound (F .n) (A .list) (A .count) (textured (A .texture)) (getD (F .records) i noRecord) (f .each i k));
+        })
+
+    pub read-nothing-left : t ≡ []
+    read-nothing-left = read-parts A samples lent F s t accepted .1 .nothing-left

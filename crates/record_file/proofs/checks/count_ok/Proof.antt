@@ -1,0 +1,13 @@
+-- `count_ok` meets its contract, case by case.
+use borrow.Author.Tests.{le-leb, lt-leb}
+use Rattle.record_file.proofs.checks.count_ok.Statement.{statement}
+use Rattle.record_file.proofs.checks.count_ok.Tie as tie
+
+returns : tie.Need-returns
+returns c = rw (le-leb _ _ (c .if1 .taken))
+
+returns-2 : tie.Need-returns-2
+returns-2 c = rw (lt-leb _ _ (c .if1 .left))
+
+pub count-ok-spec : {M : Type 1} → statement M
+count-ok-spec = tie.close (tie.spec returns returns-2)

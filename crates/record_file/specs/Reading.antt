@@ -1,0 +1,112 @@
+-- Document 01, "House file": reading the text, line by line. Assumes nothing.
+use Prim.Native.Nat.{ℕ, suc, _+_, _*_}
+use mathlib.Core.Bool.{Bool, _&&_, _||_}
+use mathlib.Core.List.{List}
+use lib.Dec.{eqb, leb, ltb}
+use lib.ListN.{length}
+use Rattle.arith.specs.Checks.{unless}
+use Rattle.pattern.specs.Size.{sizeOk}
+use Rattle.sheet.specs.Grid.{blocks}
+use Rattle.sheet.specs.State.{stateOf, sidesOk}
+use Rattle.sheet.specs.Meaning.{recordRefusal}
+use Rattle.sheet.specs.Place.{textured}
+use Rattle.record_text.specs.declared.cursor.SizeFields.{SizeFields}
+use Rattle.record_text.specs.declared.cursor.RecordFields.{RecordFields}
+use Rattle.record_text.specs.Parsed.{exactly}
+use Rattle.record_text.specs.Line.{sizeTitle, depthTitle, recordTitle, sizeLine, valueLine, recordLine}
+use Rattle.record_text.specs.Lines.{Lined, read, judged, line, linesThen, noMeaning, manyLines, ended}
+use Rattle.record_file.specs.Text.{meant}
+
+-- what a file holds
+pub record File : Type 0 where
+  pub n : ℕ
+  pub width : ℕ
+  pub height : ℕ
+  pub table : List ℕ
+  pub records : List RecordFields
+
+abbrev pub fileOf : ℕ → ℕ → ℕ → List ℕ → List RecordFields → File
+fileOf n width height table records = record { n = n; width = width; height = height; table = table; records = records }
+
+-- a file is read with a wedgelet list (document 01: edge list) and its count, and texture; no texture is the empty list
+pub record Aids : Type 0 where
+  pub list : List ℕ
+  pub count : ℕ
+  pub texture : List ℕ
+
+abbrev pub aidsOf : List ℕ → ℕ → List ℕ → Aids
+aidsOf list count texture = record { list = list; count = count; texture = texture }
+
+-- the meaning of line 2. 1: the size; 8: a side; 2: texture neither empty nor of the sheet's size; 3: the table count
+unfoldable pub sizeMeaning : ℕ → SizeFields → ℕ
+sizeMeaning texture z =
+    unless (sizeOk (z .n)) 1
+    (unless (sidesOk (stateOf (z .n) (z .width) (z .height) 0)) 8
+    (unless (eqb texture 0 || eqb texture (z .width * z .height)) 2
+    (unless (leb 1 (z .values) && leb (z .values) 256) 3 0)))
+
+-- the meaning of a value's line, where low is one more than the value before it. 3: above 255, or not rising
+unfoldable pub valueMeaning : ℕ → ℕ → ℕ
+valueMeaning low v = unless (ltb v 256 && leb low v) 3 0
+
+abbrev pub lowAfter : ℕ → ℕ → ℕ
+lowAfter low v = suc v
+
+-- the meaning of a record's line for blocks of size n: 7, 21, 6, 5, 4; no line depends on the ones before it
+abbrev pub recordMeaningBy : ℕ → List ℕ → ℕ → Bool → Unit {0} → RecordFields → ℕ
+recordMeaningBy n list count lent c r = recordRefusal n list count lent (meant r)
+
+abbrev pub recordMeaning : ℕ → Aids → Unit {0} → RecordFields → ℕ
+recordMeaning n A = recordMeaningBy n (A .list) (A .count) (textured (A .texture))
+
+abbrev pub unchanged : Unit {0} → RecordFields → Unit {0}
+unchanged c r = c
+
+-- m table values from line k on, and m records from line k on
+abbrev pub valueLines : ℕ → ℕ → List ℕ → Lined (List ℕ)
+valueLines m k s = manyLines valueLine valueMeaning lowAfter m k 0 s
+
+abbrev pub recordLinesBy : ℕ → List ℕ → ℕ → Bool → ℕ → ℕ → List ℕ → Lined (List RecordFields)
+recordLinesBy n list count lent m k s = manyLines recordLine (recordMeaningBy n list count lent) unchanged m k tt s
+
+abbrev pub recordLines : ℕ → Aids → ℕ → ℕ → List ℕ → Lined (List RecordFields)
+recordLines n A = recordLinesBy n (A .list) (A .count) (textured (A .texture))
+
+-- m records from line k on, and nothing after them: what is left is the line after the last
+abbrev pub lastLines : ℕ → Aids → ℕ → ℕ → List ℕ → Lined (List RecordFields)
+lastLines n A m k s = linesThen (recordLines n A m k s) λ records s. ended (k + m) records s
+
+-- the first three lines
+abbrev pub headLines : ℕ → List ℕ → Lined SizeFields
+headLines texture s =
+    line 1 (exactly sizeTitle s) noMeaning λ _ s.
+    line 2 (sizeLine s) (sizeMeaning texture) λ z s.
+    line 3 (exactly depthTitle s) noMeaning λ _ s.
+    read z s
+
+-- the lines before the records: the size, the table values and a title
+abbrev pub frontLines : ℕ → List ℕ → Lined (SizeFields × List ℕ)
+frontLines texture s =
+    linesThen (headLines texture s) λ z s.
+    linesThen (valueLines (z .values) 4 s) λ table s.
+    line (4 + z .values) (exactly recordTitle s) noMeaning λ _ s.
+    read (z, table) s
+
+abbrev pub blocksIn : SizeFields → ℕ
+blocksIn z = blocks (z .n) (z .width) (z .height)
+
+-- the whole text
+unfoldable pub fileLines : Aids → List ℕ → Lined File
+fileLines A s =
+    linesThen (frontLines (length (A .texture)) s) λ f s.
+    linesThen (lastLines (f .0 .n) A (blocksIn (f .0)) (5 + f .0 .values) s) λ records s.
+    read (fileOf (f .0 .n) (f .0 .width) (f .0 .height) (f .1) records) s
+
+-- reading is lent 16,384 samples and 1,024 records, and a count that the lent words and 9,999 allow
+unfoldable pub readLengthsOk : ℕ → ℕ → ℕ → ℕ → Bool
+readLengthsOk samples records words count = leb 16384 samples && (leb 1024 records && (leb count words && leb count 9999))
+
+-- reading a file: the lengths are judged first, as line 0
+unfoldable pub readFile : Aids → ℕ → ℕ → List ℕ → Lined File
+readFile A samples records s =
+    judged (unless (readLengthsOk samples records (length (A .list)) (A .count)) 2 0) 0 (fileLines A s)

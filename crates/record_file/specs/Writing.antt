@@ -1,0 +1,82 @@
+-- Document 01, "House file": writing. Assumes nothing.
+use Prim.Native.Nat.{ℕ, zero, suc, _+_, _*_, _≤_}
+use mathlib.Core.Bool.{Bool, true, _&&_}
+use mathlib.Core.List.{List}
+use lib.Dec.{eqb, leb}
+use lib.IntN.{natAbs}
+use lib.ListN.{length}
+use lib.Seq.{sets}
+use Rattle.arith.specs.Checks.{unless, Answer, answer, lent}
+use Rattle.depth_table.specs.Table.{tableOk}
+use Rattle.sheet.specs.declared.Sheet.{Sheet}
+use Rattle.sheet.specs.State.{blocksOf, stateRefusal}
+use Rattle.sheet.specs.Meaning.{recordRefusal}
+use Rattle.record_text.specs.declared.cursor.RecordFields.{RecordFields}
+use Rattle.arith.specs.Lists.{listOf}
+use Rattle.record_file.specs.Text.{fileText, meant}
+
+-- what is written: a state, the table, and the record at each place
+pub record Source : Type 0 where
+  pub sheet : Sheet
+  pub table : List ℕ
+  pub record-at : ℕ → RecordFields
+
+abbrev pub sourceOf : Sheet → List ℕ → (ℕ → RecordFields) → Source
+sourceOf S table at = record { sheet = S; table = table; record-at = at }
+
+-- the first of two refusals, 0 for none
+abbrev pub first : ℕ → ℕ → ℕ
+first zero b = b
+first (suc a) b = suc a
+
+-- the first refusal of f 0, f 1, .., f (m - 1)
+unfoldable pub firstTo : (ℕ → ℕ) → ℕ → ℕ
+firstTo f zero = 0
+firstTo f (suc m) = first (firstTo f m) (f m)
+
+-- the bytes that writing needs
+abbrev pub spaceFor : ℕ → ℕ → ℕ
+spaceFor values blocks = 80 + 4 * values + 32 * blocks
+
+-- a count that the lent words and 9,999 allow, no fewer records than blocks, and space
+unfoldable pub writeLengthsOk : Sheet → ℕ → ℕ → ℕ → ℕ → ℕ → Bool
+writeLengthsOk S words count values records space =
+    leb count words && (leb count 9999 && (leb (blocksOf S) records && leb (spaceFor values (blocksOf S)) space))
+
+-- how far the numbers of a record that is not refused go
+pub record Small (r : RecordFields) : Type 0 where
+  pub kind : r .kind ≤ 1
+  pub entry : r .entry ≤ 9998
+  pub off0 : natAbs (r .off0) ≤ 255
+  pub off1 : natAbs (r .off1) ≤ 255
+
+-- how far the numbers of the size line go
+pub record HeadFits (S : Sheet) (values : ℕ) : Type 0 where
+  pub n : S .n ≤ 8
+  pub width : S .width ≤ 128
+  pub height : S .height ≤ 128
+  pub table : values ≤ 256
+
+-- a record is written without texture, so that 21 is not given: 7, 6, 5, 4
+abbrev pub writtenRefusal : ℕ → List ℕ → ℕ → RecordFields → ℕ
+writtenRefusal n list count r = recordRefusal n list count true (meant r)
+
+-- 1, 2, 8, 23; 22: blocks are missing; 3: the table; then the first bad record; records and space are the lengths of what is lent
+unfoldable pub writeRefusal : Source → List ℕ → ℕ → ℕ → ℕ → ℕ
+writeRefusal W list count records space =
+    stateRefusal (W .sheet) (writeLengthsOk (W .sheet) (length list) count (length (W .table)) records space)
+    (unless (eqb (W .sheet .placed) (blocksOf (W .sheet))) 22
+    (unless (tableOk (W .table)) 3
+    (firstTo (λ i. writtenRefusal (W .sheet .n) list count (W .record-at i)) (blocksOf (W .sheet)))))
+
+-- the text that is written
+abbrev pub writtenText : Source → List ℕ
+writtenText W = fileText (W .sheet .n) (W .sheet .width) (W .sheet .height) (W .table) (listOf (W .record-at) (blocksOf (W .sheet)))
+
+-- `write` answers the length of the text
+unfoldable pub writeAnswer : Source → List ℕ → ℕ → ℕ → ℕ → Answer ℕ
+writeAnswer W list count records space = answer (writeRefusal W list count records space) (length (writtenText W))
+
+-- the lent bytes afterwards: the text from the start on, and past it the old content
+unfoldable pub writeAfter : Source → List ℕ → ℕ → ℕ → List ℕ → List ℕ
+writeAfter W list count records old = lent (writeRefusal W list count records (length old)) (sets old 0 (writtenText W)) old
