@@ -6,6 +6,7 @@ fn step(c: u64, number: u64) -> u64 {
     (c % 1000000007 * 31 + number % 1000000007) % 1000000007
 }
 
+// A sample, and a kind or an entry, as numbers of 64 bits.
 fn wide(sample: u8) -> u64 {
     sample as u64
 }

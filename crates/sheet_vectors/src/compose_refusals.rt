@@ -10,6 +10,7 @@ use crate::samples::samples;
 use sheet::Composed;
 use sheet::Sheet;
 
+// The count given with the list.
 fn count(case: usize) -> usize {
     match case {
         0..=6 => 2,
@@ -21,6 +22,7 @@ fn count(case: usize) -> usize {
     }
 }
 
+// The number of texture samples lent.
 fn texture_length(case: usize, area: usize) -> usize {
     match case {
         0..=8 => 0,
@@ -29,6 +31,7 @@ fn texture_length(case: usize, area: usize) -> usize {
     }
 }
 
+// The number of original samples lent.
 fn original_length(case: usize, area: usize) -> usize {
     if case == 11 {
         return faults::less(area);
@@ -54,10 +57,12 @@ fn records(case: usize) -> usize {
     }
 }
 
+// The reach: above 255 in the cases 0 to 7.
 fn reach(case: usize) -> u32 {
     if case <= 7 { 256 } else { 1 }
 }
 
+// The refusal number; 0 for none.
 fn number_of(composed: Composed) -> u8 {
     match composed {
         Composed::Finished(_, _) => 0,
@@ -149,11 +154,13 @@ fn with_samples(case: usize, state: Sheet, lent: &mut [u8], original: &[u8], tex
     );
 }
 
+// The state: n is 8 in case 20.
 fn state_of(case: usize, width: u32) -> Sheet {
     let n = if case == 20 { 8 } else { 4 };
     faults::state(case, n, width)
 }
 
+// A case, with its samples, original and texture.
 fn line(case: usize)
     requires { ⌜ case ≤ 20 ⌝ }
 {
@@ -172,6 +179,7 @@ fn line(case: usize)
     );
 }
 
+// The lines of all cases.
 pub(crate) fn print() {
     for case in 0..21 {
         line(case);

@@ -3,6 +3,7 @@ use crate::output;
 use sheet::Made;
 use sheet::Sheet;
 
+// The refusal number; 0 for none.
 fn number_of(made: Made) -> u8 {
     match made {
         Made::New(_) => 0,
@@ -10,6 +11,7 @@ fn number_of(made: Made) -> u8 {
     }
 }
 
+// The line of a size, a width and a height.
 fn line(n: u32, width: u32, height: u32) {
     output::text(b"refused new");
     output::number(n as u64);

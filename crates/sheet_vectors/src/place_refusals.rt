@@ -9,6 +9,7 @@ use crate::samples::samples;
 use sheet::Placed;
 use sheet::Sheet;
 
+// The count given with the list.
 fn count(case: usize) -> usize {
     match case {
         17 | 18 => 0,
@@ -17,6 +18,7 @@ fn count(case: usize) -> usize {
     }
 }
 
+// The number of texture samples lent.
 fn texture_length(case: usize, area: usize) -> usize {
     match case {
         0..=13 => 0,
@@ -25,6 +27,7 @@ fn texture_length(case: usize, area: usize) -> usize {
     }
 }
 
+// The fields of the case's record.
 fn kind(case: usize) -> u32 {
     match case {
         0..=6 => 2,
@@ -59,6 +62,7 @@ fn off1(case: usize) -> i32 {
     }
 }
 
+// The refusal number; 0 for none.
 fn number_of(placed: Placed) -> u8 {
     match placed {
         Placed::Next(_) => 0,
@@ -90,6 +94,7 @@ fn sound_width(case: usize) -> u32
     if case == 21 { 132 } else { 8 }
 }
 
+// The state: n is 8 in case 22.
 fn state_of(case: usize, width: u32) -> Sheet {
     let n = if case == 22 { 8 } else { 4 };
     faults::state(case, n, width)
@@ -107,6 +112,7 @@ fn with_samples(case: usize, state: Sheet, lent: &mut [u8], texture: &[u8]) {
     output::end();
 }
 
+// A case, with its samples and texture.
 fn line(case: usize)
     requires { ⌜ case ≤ 22 ⌝ }
 {
@@ -122,6 +128,7 @@ fn line(case: usize)
     );
 }
 
+// The lines of all cases.
 pub(crate) fn print() {
     for case in 0..23 {
         line(case);

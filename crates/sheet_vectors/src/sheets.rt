@@ -44,6 +44,7 @@ const CASES: [u64; 27] = [
 // As many records are lent.
 const RECORDS: usize = 1024;
 
+// A case's fields; `first` records are placed before the sheet is composed.
 struct Case {
     n: u32,
     width: u32,
@@ -55,6 +56,7 @@ struct Case {
     first: usize,
 }
 
+// The case of a number.
 fn case_of(number: usize) -> Case
     requires { ⌜ number ≤ 26 ⌝ }
     ensures { λ r. ⌜ r .first ≤ 999 ⌝ }
@@ -85,6 +87,7 @@ fn number_at(s: &[u32], i: usize) -> u64 {
     0
 }
 
+// A kind or an entry as a number of 64 bits.
 fn wide(number: u32) -> u64 {
     number as u64
 }
@@ -249,6 +252,7 @@ fn original_source(original: usize) -> Source {
     }
 }
 
+// The lines of a case.
 fn lines(number: usize)
     requires { ⌜ number ≤ 26 ⌝ }
 {
@@ -264,6 +268,7 @@ fn lines(number: usize)
     );
 }
 
+// The lines of all cases.
 pub(crate) fn print() {
     for number in 0..27 {
         lines(number);
