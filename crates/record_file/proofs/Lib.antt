@@ -5,4 +5,5 @@ pub mod RefusalLaws
 pub mod SpaceLaws
 pub mod WriteLaws
 pub mod ReadLaws
+pub mod PartLaws
 pub mod RoundTrip

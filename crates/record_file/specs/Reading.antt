@@ -73,8 +73,11 @@ abbrev pub recordLines : ℕ → Aids → ℕ → ℕ → List ℕ → Lined (Li
 recordLines n A = recordLinesBy n (A .list) (A .count) (textured (A .texture))
 
 -- m records from line k on, and nothing after them: what is left is the line after the last
+abbrev pub lastLinesBy : ℕ → List ℕ → ℕ → Bool → ℕ → ℕ → List ℕ → Lined (List RecordFields)
+lastLinesBy n list count lent m k s = linesThen (recordLinesBy n list count lent m k s) λ records s. ended (k + m) records s
+
 abbrev pub lastLines : ℕ → Aids → ℕ → ℕ → List ℕ → Lined (List RecordFields)
-lastLines n A m k s = linesThen (recordLines n A m k s) λ records s. ended (k + m) records s
+lastLines n A = lastLinesBy n (A .list) (A .count) (textured (A .texture))
 
 -- the first three lines
 abbrev pub headLines : ℕ → List ℕ → Lined SizeFields
@@ -84,13 +87,16 @@ headLines texture s =
     line 3 (exactly depthTitle s) noMeaning λ _ s.
     read z s
 
--- the lines before the records: the size, the table values and a title
-abbrev pub frontLines : ℕ → List ℕ → Lined (SizeFields × List ℕ)
-frontLines texture s =
-    linesThen (headLines texture s) λ z s.
+-- the table values, and the title after them
+abbrev pub tableLines : SizeFields → List ℕ → Lined (SizeFields × List ℕ)
+tableLines z s =
     linesThen (valueLines (z .values) 4 s) λ table s.
     line (4 + z .values) (exactly recordTitle s) noMeaning λ _ s.
     read (z, table) s
+
+-- the lines before the records: the size, the table values and a title
+abbrev pub frontLines : ℕ → List ℕ → Lined (SizeFields × List ℕ)
+frontLines texture s = linesThen (headLines texture s) λ z s. tableLines z s
 
 abbrev pub blocksIn : SizeFields → ℕ
 blocksIn z = blocks (z .n) (z .width) (z .height)

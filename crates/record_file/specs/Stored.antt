@@ -38,6 +38,9 @@ linesTold s (linesRead.Refused n k) = refusedAt n k
 abbrev pub only : {A : Type 0} → Lined A → Lined (Unit {0})
 only x = linesThen x λ a s. read tt s
 
+abbrev pub sizeOnly : Lined (SizeFields × List ℕ) → Lined SizeFields
+sizeOnly x = linesThen x λ f s. read (f .0) s
+
 -- the four slices of lent records
 abbrev pub Slices : Type 0
 Slices = List ℕ × (List ℕ × (List ℤ × List ℤ))
@@ -55,3 +58,8 @@ PutIf put (read l s) x = x ≡ put l
 abbrev pub putOr : {A X : Type 0} → (List A → X) → Lined (List A) → X → X
 putOr put (refusedAt n k) old = old
 putOr put (read l s) old = put l
+
+-- the same of a table beside the size line's numbers
+abbrev pub TableIf : (List ℕ → List ℕ) → Lined (SizeFields × List ℕ) → List ℕ → Type 0
+TableIf put (refusedAt n k) x = Unit {0}
+TableIf put (read f s) x = x ≡ put (f .1)

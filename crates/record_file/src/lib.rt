@@ -1,7 +1,9 @@
 // The record file (document 01, "House file").
 mod checks;
+mod front;
 mod lines;
 mod loops;
+mod reading;
 mod records;
 mod writing;
 
