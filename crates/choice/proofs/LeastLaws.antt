@@ -10,7 +10,7 @@ use Rattle.arith.specs.Checks.{answer}
 use Rattle.arith.specs.Least.{First, leastTo}
 use Rattle.arith.proofs.LeastLaws.{leastTo-first}
 use Rattle.choice.specs.Offset.{InReach, trial, offset}
-use Rattle.choice.specs.Record.{Case, Record, PatternIn, Within, patternOf, costOf, Before, LeastRecord}
+use Rattle.choice.specs.Record.{Case, Record, PatternIn, Within, patternOf, costOf, Before, LeastRecord, OneLeast}
 use Rattle.choice.specs.Search.{textured, trialCost, bestTrial, bestCost, patternAt, lastPattern, bestPattern, recordAt, chosen}
 use Rattle.choice.specs.Answer.{chooseRefusal, chooseAnswer, LeastGiven}
 use Rattle.choice.proofs.OffsetLaws.{trial-offset, trial-in, in-offset, sooner-trial, same-offset}
@@ -148,6 +148,12 @@ module _ (C : Case) where
         same-record (r .kind) (r .entry) (r .off0) (r .off1) k e a b,
         omega (arith, x .its-cost, y .its-cost, x .least s (y .within), y .least r (x .within)),
       )
+
+  -- a case that is not refused has exactly one chosen record
+  pub one-least : chooseRefusal C ≡ 0 → OneLeast C
+  one-least e =
+      let x = chosen-least C (accepted C e .some) in
+      record { chosen = chosen C .0; cost = chosen C .1; is-least = x; only = λ r c y. least-unique r (chosen C .0) c (chosen C .1) y x }
 
   -- ---- the answer
 

@@ -89,3 +89,10 @@ pub record LeastRecord (C : Case) (r : Record) (cost : ℕ) : Type 0 where
   pub its-cost : cost ≡ costOf C r
   pub least : (s : Record) → Within C s → cost ≤ costOf C s
   pub first : (s : Record) → Within C s → Before s r → cost < costOf C s
+
+-- exactly one record is the chosen one, at one cost
+pub record OneLeast (C : Case) : Type 0 where
+  pub chosen : Record
+  pub cost : ℕ
+  pub is-least : LeastRecord C chosen cost
+  pub only : (r : Record) (c : ℕ) → LeastRecord C r c → (r ≡ chosen) × (c ≡ cost)

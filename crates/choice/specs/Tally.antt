@@ -1,4 +1,5 @@
--- What the loops over one partition hold: counts of its samples, its cost at every depth value, and its best offset. Assumes nothing.
+-- What the search answers step by step: the counts of a partition's samples, its cost at every depth value, its best offset, then the best
+-- offsets of a pattern, and the best pattern. Assumes nothing.
 use Prim.Native.Nat.{ℕ, _*_, _≤_, _<_}
 use mathlib.Core.Path.{_≡_}
 use mathlib.Core.Bool.{Bool, true, false, _&&_}

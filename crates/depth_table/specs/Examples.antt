@@ -3,7 +3,7 @@ use Prim.Native.Nat.{ℕ}
 use mathlib.Core.Path.{_≡_, refl}
 use mathlib.Core.Bool.{true, false}
 use mathlib.Core.List.{List, [], _∷_, map}
-use Rattle.arith.specs.Checks.{Answer, refused, given}
+use Rattle.arith.specs.Checks.{refused, given}
 use Rattle.depth_table.specs.Table.{bytes, rising, tableOk, nearestTo, indexOf}
 use Rattle.depth_table.specs.Answer.{indexRefusal, indexAnswer}
 

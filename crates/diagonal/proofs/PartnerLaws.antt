@@ -13,7 +13,7 @@ use Rattle.pattern.specs.Contour.{contourOf}
 use Rattle.pattern.specs.Pattern.{transposed}
 use Rattle.pattern.specs.Wedgelet.{wedgeletList}
 use Rattle.pattern.proofs.ContourLaws.{contour-transposed}
-use Rattle.pattern.proofs.WedgeletLaws.{wedgeletList-turn-closed}
+use Rattle.pattern.proofs.WedgeletLaws.{list-closed}
 use Rattle.prediction.specs.Transposed.{transposedNeighbours, EndsDecide}
 use Rattle.prediction.specs.Block.{predicted}
 use Rattle.prediction.proofs.TransposedLaws.{prediction-transposed}
@@ -49,7 +49,7 @@ module _ (C : Case) (k : Accepted C) (built : AsBuilt (C .n) (C .list) (C .count
   wedgelet-partner entry h =
       let n = C .n in
       let at : (i : ℕ) → i < C .count → getD (C .list) i 0 ≡ getD (wedgeletList n) i 0 = built-at built in
-      let o = wedgeletList-turn-closed n entry (omega (arith, built .counted)) in
+      let o = list-closed n entry (omega (arith, built .counted)) in
       let in-list : o .index < C .count = omega (arith, built .counted, o .inside) in
       record {
         entry′ = o .index;

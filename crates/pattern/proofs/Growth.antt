@@ -16,7 +16,7 @@ use Rattle.pattern.specs.Wedgelet.{points, wedgelet, holds, keep, ends, 
 use Rattle.arith.proofs.ListLaws.{length-end}
 use Rattle.pattern.specs.Answer.{needed}
 
--- ---- whether a wedgelet stands in a list
+-- ---- whether a word stands in a list
 
 pub holds-at : (l : List ℕ) (w k : ℕ) → k < length l → getD l k 0 ≡ w → holds l w ≡ true
 unfolding holds
@@ -91,7 +91,7 @@ starts-length n (suc s) h =
 le-or-lt : (a b : ℕ) → (a ≤ b) ⊎ (b < a)
 le-or-lt a b = elim (decLe a b) [ yes h ↦ inl h | no h ↦ inr (omega arith) ]
 
--- there is room for one wedgelet more at each candidate
+-- there is room for one word more at each candidate
 pub room : (n s e : ℕ) → s < points n → e < points n → (e ≡ s → ⊥) → length (ends n (starts n s) s e) < needed n
 room n s e hs he d =
     let whole : suc s * (points n - 1) ≤ needed n = mul-le-mul-right (points n - 1) hs in
@@ -177,6 +177,6 @@ module _ (n : ℕ) (k l₀ l : List ℕ) (s e : ℕ) {count w : ℕ} (d : e ≡ 
       ∙ ap (λ (x : ℕ). ends n k s e ++ (x ∷ [])) (sym v))
       (front-add w (omega (arith, f .same)) f)
 
-pub wedgeletList-length : (n : ℕ) → length (wedgeletList n) ≤ needed n
+pub list-length : (n : ℕ) → length (wedgeletList n) ≤ needed n
 unfolding wedgeletList
-wedgeletList-length n = starts-length n (points n) (omega arith)
+list-length n = starts-length n (points n) (omega arith)

@@ -1,4 +1,5 @@
--- The edge list has no zero wedgelet and no wedgelet twice, and is closed under turning, for every n. Assumes nothing.
+-- For every n the wedgelet list has no zero word, no word twice and none that marks (0,0), and the transposed pattern of each entry
+-- is exactly one entry. Assumes nothing.
 use Prim.Native.Nat.{ℕ, zero, suc, _+_, _-_, _*_, _/_, _%_, _^_, _≤_, _<_}
 use mathlib.Core.Bool.{Bool, true, false, cond, _||_, or-true, or-false, false≢true, true≢false}
 use mathlib.Core.List.{List, [], _∷_, _++_}
@@ -19,7 +20,7 @@ use Rattle.pattern.proofs.PatternLaws.{transposed-nonzero}
 use Rattle.pattern.proofs.PointLaws.{acrossPoint, across-point-lt, across-injective, wedgelet-lt, wedgelet-origin, wedgelet-transposed}
 use Rattle.pattern.proofs.Growth.{holds-at}
 
--- ---- a property of the list that each kept wedgelet keeps
+-- ---- a property of the list that each kept word keeps
 
 keep-by : (P : List ℕ → Type 0) (l : List ℕ) (w : ℕ) (a b : Bool) → eqb w 0 ≡ a → holds l w ≡ b → P l
     → ((w ≡ 0 → ⊥) → holds l w ≡ false → P (l ++ (w ∷ []))) → P (cond (a || b) l (l ++ (w ∷ [])))
@@ -36,7 +37,7 @@ ends-by : (P : List ℕ → Type 0) (n s e : ℕ) (l : List ℕ) (b : Bool) → 
 ends-by P n s e l true p h k = h
 ends-by P n s e l false p h k = k (eqb-false e s p)
 
--- a property of lists that each candidate's step keeps holds of the edge list
+-- a property of lists that each candidate's step keeps holds of the wedgelet list
 module _ (P : List ℕ → Type 0) (n : ℕ)
     (step : (l : List ℕ) (s e : ℕ) → s < points n → e < points n → (e ≡ s → ⊥) → (wedgelet n s e ≡ 0 → ⊥) → holds l (wedgelet n s e) ≡ false → P l → P (l ++ (wedgelet n s e ∷ []))) where
   pub ends-ind : (l : List ℕ) (s e : ℕ) → s < points n → e ≤ points n → P l → P (ends n l s e)
@@ -52,11 +53,11 @@ module _ (P : List ℕ → Type 0) (n : ℕ)
   starts-ind zero hs h = h
   starts-ind (suc s) hs h = ends-ind (starts n s) s (points n) hs (omega arith) (starts-ind s (omega arith) h)
 
-  pub wedgeletList-ind : P [] → P (wedgeletList n)
+  pub list-ind : P [] → P (wedgeletList n)
   unfolding wedgeletList
-  wedgeletList-ind h = starts-ind (points n) (omega arith) h
+  list-ind h = starts-ind (points n) (omega arith) h
 
--- ---- the places of a list with one wedgelet more
+-- ---- the places of a list with one word more
 
 pub place : (l : List ℕ) (w i : ℕ) → i < length (l ++ (w ∷ [])) → (i ≡ length l) ⊎ (i < length l)
 place l w i h = eq-or-lt-of-le (omega (arith, length-end l w))
@@ -67,19 +68,19 @@ last-at l w i e = ap (λ (k : ℕ). getD (l ++ (w ∷ [])) k 0) e ∙ getD-appen
 pub old-at : (l : List ℕ) (w i : ℕ) → i < length l → getD (l ++ (w ∷ [])) i 0 ≡ getD l i 0
 old-at l w i h = List·getD-append l (w ∷ []) 0 i h
 
--- a wedgelet that is not in the list stands at none of its places
+-- a word that is not in the list stands at none of its places
 fresh : (l : List ℕ) (w : ℕ) → holds l w ≡ false → (i : ℕ) → i < length l → getD l i 0 ≡ w → ⊥
 fresh l w f i h e = true≢false (sym (holds-at l w i h e) ∙ f)
 
-pub wedgeletList-nonzero : (n : ℕ) → Nonzero (wedgeletList n)
-wedgeletList-nonzero n =
-    wedgeletList-ind Nonzero n
+pub list-nonzero : (n : ℕ) → Nonzero (wedgeletList n)
+list-nonzero n =
+    list-ind Nonzero n
     (λ l s e hs he d z f p i h q.
     ⊎-elim (λ a. z (sym (last-at l (wedgelet n s e) i a) ∙ q)) (λ b. p i b (sym (old-at l (wedgelet n s e) i b) ∙ q)) (place l (wedgelet n s e) i h))
     (λ i h. absurd (omega arith))
 
-pub wedgeletList-distinct : (n : ℕ) → Distinct (wedgeletList n)
-wedgeletList-distinct n = wedgeletList-ind Distinct n step (λ i j h. absurd (omega arith))
+pub list-distinct : (n : ℕ) → Distinct (wedgeletList n)
+list-distinct n = list-ind Distinct n step (λ i j h. absurd (omega arith))
   where
     step :
         (l : List ℕ) (s e : ℕ) → s < points n → e < points n → (e ≡ s → ⊥) → (wedgelet n s e ≡ 0 → ⊥) → holds l (wedgelet n s e) ≡ false
@@ -97,7 +98,7 @@ wedgeletList-distinct n = wedgeletList-ind Distinct n step (λ i j h. absurd (om
 
 -- ---- the entries are the words of the candidates
 
--- the wedgelet of a candidate that is not dropped as zero
+-- the word of a candidate that is not dropped as zero
 pub record Candidate (n w : ℕ) : Type 0 where
   pub start : ℕ
   pub end : ℕ
@@ -109,7 +110,7 @@ pub record Candidate (n w : ℕ) : Type 0 where
 
 pub entry-candidate : (n i : ℕ) → i < length (wedgeletList n) → Candidate n (getD (wedgeletList n) i 0)
 entry-candidate n =
-    wedgeletList-ind (λ l. (i : ℕ) → i < length l → Candidate n (getD l i 0)) n
+    list-ind (λ l. (i : ℕ) → i < length l → Candidate n (getD l i 0)) n
     (λ l s e hs he d z f p i h.
     ⊎-elim
     (λ a. subst (Candidate n) (sym (last-at l (wedgelet n s e) i a)) (record { start = s; end = e; start-lt = hs; end-lt = he; differ = d; its = refl; nonzero = z }))
@@ -131,7 +132,7 @@ ends-old : (n : ℕ) (l : List ℕ) (s e w : ℕ) → s < points n → e ≤ poi
 ends-old n l s e w hs he h =
     ends-ind (λ k. holds k w ≡ true) n (λ k a b _ _ _ _ _ p. holds-append k (wedgelet n a b) w p) l s e hs he h
 
--- a wedgelet that is not zero is held after its step
+-- a word that is not zero is held after its step
 keep-new : (l : List ℕ) (w : ℕ) → (w ≡ 0 → ⊥) → holds (keep l w) w ≡ true
 unfolding keep
 keep-new l w z = rw (ne-eqb w 0 z) (go (holds l w) refl)
@@ -176,7 +177,7 @@ pub candidate-held : (n s e : ℕ) → s < points n → e < points n → (e ≡ 
 unfolding wedgeletList
 candidate-held n s e hs he d z = starts-new n s e (points n) (omega arith) hs he d z
 
--- a held wedgelet has a place
+-- a held word has a place
 record Place (l : List ℕ) (w : ℕ) : Type 0 where
   index : ℕ
   inside : index < length l
@@ -216,12 +217,12 @@ transposed-place n w c =
     (λ q. c .differ (sym (across-injective n s e (c .start-lt) (c .end-lt) q)))
     (λ z. transposed-nonzero n w small (c .nonzero) (t ∙ z))))
 
-pub wedgeletList-turn-closed : (n : ℕ) → TransposeClosed n (wedgeletList n)
-wedgeletList-turn-closed n i h =
+pub list-closed : (n : ℕ) → TransposeClosed n (wedgeletList n)
+list-closed n i h =
     let p = transposed-place n (getD (wedgeletList n) i 0) (entry-candidate n i h) in
     record {
       index = p .index;
       inside = p .inside;
       there = p .there;
-      only = λ j hj q. wedgeletList-distinct n j (p .index) hj (p .inside) (q ∙ sym (p .there));
+      only = λ j hj q. list-distinct n j (p .index) hj (p .inside) (q ∙ sym (p .there));
     }

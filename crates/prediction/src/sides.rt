@@ -1,6 +1,6 @@
 // The depths of the two partitions of a pattern, from the neighbours of its block.
 ghost use mathlib.Core.Path.{_≡_};
-ghost use mathlib.Core.Bool.{true, false, cond};
+ghost use mathlib.Core.Bool.{false, cond};
 ghost use Prim.Native.Nat.{_*_, _≤_};
 ghost use lib.ListN.{length};
 ghost use Rattle.arith.specs.Bits.{testBit};

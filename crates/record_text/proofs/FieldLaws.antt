@@ -1,10 +1,10 @@
 -- Both inverse laws of a field: a numeral or a signed numeral with the byte after it. Assumes nothing.
 use Prim.Native.Nat.{ℕ, zero, suc, _+_, _-_, _*_, _/_, _%_, _^_, _≤_, _<_, zero-le}
-use mathlib.Core.Path.{_≡_, refl, sym, _∙_, ap, subst}
+use mathlib.Core.Path.{_≡_, refl, sym, _∙_, ap}
 use mathlib.Core.Bool.{true, cond}
 use mathlib.Core.List.{List, [], _∷_, _++_, append-assoc}
 use native.Mathlib.Omega.{arith}
-use native.Mathlib.Nat.{pow-suc, suc-add, zero-add, mod-lt, div-add-mod', add-sub-cancel-left, pow-zero, zero-mul, suc-mul, mul-comm, eq-or-lt-of-le}
+use native.Mathlib.Nat.{pow-suc, suc-add, zero-add, mod-lt, div-add-mod', add-sub-cancel-left, pow-zero, zero-mul, suc-mul, eq-or-lt-of-le}
 use mathlib.Core.Logic.{⊎-elim}
 use lib.Dec.{ltb, eqb}
 use lib.IntN.{ℤ, pos, negsuc, natAbs}
@@ -52,6 +52,7 @@ room-further n = go (n / 10 ^ furtherDigits 4 n) refl
         (eq-or-lt-of-le (zero-le {n = furtherDigits 4 n}))
     go (suc q) e = further-le 4 n
 
+-- a number's field
 number-reads : (e n : ℕ) (t : List ℕ) → e < 48 → n < numeralEnd → number e (numeral n ++ e ∷ t) ≡ found n t
 unfolding number numeral digitsOf
 number-reads e n t he h =
@@ -68,6 +69,7 @@ number-reads e n t he h =
     room-is : (m r : ℕ) → m ≤ r → r ≡ m + (r - m)
     room-is m r l = omega arith
 
+-- a signed number's field
 signed-reads : (e : ℕ) (z : ℤ) (t : List ℕ) → e < 48 → natAbs z < numeralEnd → signed e (signedNumeral z ++ e ∷ t) ≡ found z t
 unfolding signed signedNumeral numeral digitsOf
 signed-reads e (pos n) t he h =
@@ -128,6 +130,7 @@ further-digit zero j n hj hd h =
 further-digit (suc d) j n hj hd h =
     further-is 4 j (suc d * 10 ^ j + n) hj (omega (arith, suc-mul d (10 ^ j))) (digits-below (suc d) j n hd h)
 
+-- a number's field
 pub number-wrote : (e v : ℕ) (s t : List ℕ) → number e s ≡ found v t → (s ≡ numeral v ++ e ∷ t) × (v < numeralEnd)
 unfolding number numeral
 number-wrote e v [] t p = bad-found p
@@ -152,6 +155,7 @@ behind : (p : Parsed ℕ) (f : ℕ → List ℕ → Parsed ℤ) (z : ℤ) (t : L
 behind badForm f z t p = bad-found p
 behind (found a s) f z t p = record { val = a; rest = s; one = refl; two = p }
 
+-- a signed number's field
 pub signed-wrote : (e : ℕ) (z : ℤ) (s t : List ℕ) → signed e s ≡ found z t → (s ≡ signedNumeral z ++ e ∷ t) × (natAbs z < numeralEnd)
 unfolding signed signedNumeral
 signed-wrote e z [] t = λ p. bad-found p

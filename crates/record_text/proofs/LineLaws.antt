@@ -1,9 +1,8 @@
 -- Both inverse laws of each line, built field by field. Assumes nothing.
 use Prim.Native.Nat.{ℕ}
-use mathlib.Core.Path.{_≡_, refl}
+use mathlib.Core.Path.{refl}
 use mathlib.Core.List.{List}
 use native.Mathlib.Omega.{arith}
-use lib.IntN.{ℤ}
 use Rattle.record_text.specs.declared.cursor.SizeFields.{SizeFields}
 use Rattle.record_text.specs.declared.cursor.RecordFields.{RecordFields}
 use Rattle.record_text.specs.Parsed.{Parser}
@@ -33,10 +32,12 @@ printable-as c to from = record {
   wrote = λ a s t q. let w = c .wrote a s t q in (w .0, to a (w .1));
 }
 
+-- a table value's line
 pub value-line : Codec valueLine valueText NumberPrintable
 unfolding valueLine valueText
 value-line = last
 
+-- the size line
 pub size-line : Codec sizeLine sizeText SizePrintable
 unfolding sizeLine sizeText
 size-line =
@@ -46,6 +47,7 @@ size-line =
     (λ h p. record { n = p .0; width = p .1 .0; height = p .1 .1 .0; values = p .1 .1 .1 })
     (λ h p. (p .n, (p .width, (p .height, p .values))))
 
+-- a record's line
 pub record-line : Codec recordLine recordText RecordPrintable
 unfolding recordLine recordText
 record-line =

@@ -1,6 +1,6 @@
 -- Both inverse laws of several lines, one step of reading them, and how long their text is. Assumes nothing.
 use Prim.Native.Nat.{ℕ, zero, suc, _+_, _*_, _≤_, _<_}
-use mathlib.Core.Path.{_≡_, refl, sym, _∙_, ap, subst}
+use mathlib.Core.Path.{_≡_, refl, _∙_, ap, subst}
 use mathlib.Core.List.{List, [], _∷_, _++_, append-assoc, append-nil}
 use native.Mathlib.Omega.{arith}
 use native.Mathlib.Nat.{mul-suc}

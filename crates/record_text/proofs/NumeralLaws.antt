@@ -1,7 +1,7 @@
 -- Laws of numerals: how many digits a number has, and digit by digit. Assumes nothing.
 use Prim.Native.Nat.{ℕ, zero, suc, _+_, _*_, _/_, _%_, _^_, _≤_, _<_}
 use mathlib.Core.Path.{_≡_, refl, sym, _∙_, ap, subst}
-use mathlib.Core.List.{List, [], _∷_}
+use mathlib.Core.List.{_∷_}
 use native.Mathlib.Omega.{arith}
 use native.Mathlib.Nat.{pow-suc, mul-comm, mul-assoc, add-mul, div-lt-iff-lt-mul, one-le-pow, pow-le-pow-right, eq-or-lt-of-le}
 use mathlib.Core.Logic.{⊎-elim}

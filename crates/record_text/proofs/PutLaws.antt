@@ -1,8 +1,8 @@
 -- Writing a text that is given whole, and a line that is made apart first. Assumes nothing.
 use Prim.Native.Nat.{ℕ, suc, _+_, _≤_, _<_}
-use mathlib.Core.Path.{_≡_, refl, _∙_, ap, subst}
+use mathlib.Core.Path.{_≡_, refl, sym, _∙_, ap, subst}
 use mathlib.Core.Bool.{Bool, true, false, cond}
-use mathlib.Core.List.{List, []}
+use mathlib.Core.List.{List, _++_}
 use native.Mathlib.Omega.{arith}
 use lib.Dec.{leb}
 use lib.ListN.{length, getD, take, drop, set, replicate, length-replicate}
@@ -36,6 +36,19 @@ pub put-written :
 put-written {old} {new} {text} {from} {next} h w =
     let e = le-leb (from .at + length text) (length old) h in
     record { lent = w .lent ∙ rw e; place = w .place ∙ rw e }
+
+-- the same of a line whose values can be printed
+pub printed-written :
+    {b : Bool} {old new text : List ℕ} {from next : Cursor} → b ≡ true → from .at + length text ≤ length old → Put old new from (printedIf b text) next
+    → Written old new (from .at) text (next .at)
+printed-written {b} {old} {new} {text} {from} {next} e h w =
+    put-written h (subst (λ (x : Bool). Put old new from (printedIf x text) next) e w)
+
+-- what is written from the start, and past it the old content
+pub written-whole : {old new text : List ℕ} {next : ℕ} → length text ≤ length old → Written old new 0 text next → new ≡ text ++ drop next old
+written-whole {old} {new} {text} {next} h w =
+    let e : 0 + length text ≡ next = sym (w .place) in
+    w .lent ∙ sets-eq text old 0 (omega arith) ∙ ap (λ (k : ℕ). text ++ drop k old) e
 
 -- a text of values that cannot be printed is none
 cond-same : {A : Type 0} (b : Bool) (x : A) → x ≡ cond b x x

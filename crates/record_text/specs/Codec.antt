@@ -13,19 +13,22 @@ pub record Codec {A : Type 0} (p : Parser A) (text : A → List ℕ) (Printable 
   pub reads : (a : A) (rest : List ℕ) → Printable a → p (text a ++ rest) ≡ found a rest
   pub wrote : (a : A) (s rest : List ℕ) → p s ≡ found a rest → (s ≡ text a ++ rest) × Printable a
 
--- the values that have a numeral
+-- the numbers that have a numeral
 abbrev pub NumberPrintable : ℕ → Type 0
 NumberPrintable n = n < numeralEnd
 
+-- the signed numbers that have one behind their sign
 abbrev pub SignedPrintable : ℤ → Type 0
 SignedPrintable z = natAbs z < numeralEnd
 
+-- each number of a size line has one
 pub record SizePrintable (h : SizeFields) : Type 0 where
   pub n : NumberPrintable (h .n)
   pub width : NumberPrintable (h .width)
   pub height : NumberPrintable (h .height)
   pub values : NumberPrintable (h .values)
 
+-- each number of a record line has one
 pub record RecordPrintable (r : RecordFields) : Type 0 where
   pub kind : NumberPrintable (r .kind)
   pub entry : NumberPrintable (r .entry)

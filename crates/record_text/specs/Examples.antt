@@ -1,11 +1,9 @@
 -- Worked examples of the definitions. Assumes nothing.
-use Prim.Native.Nat.{ℕ}
 use mathlib.Core.Path.{_≡_, refl}
-use mathlib.Core.List.{List, [], _∷_, _++_}
+use mathlib.Core.List.{[], _∷_}
 use lib.IntN.{pos, negsuc}
-use Rattle.record_text.specs.declared.cursor.RecordFields.{RecordFields}
 use Rattle.record_text.specs.Numeral.{digitsOf, furtherDigits, numeral, signedNumeral}
-use Rattle.record_text.specs.Parsed.{Parsed, badForm, found, exactly}
+use Rattle.record_text.specs.Parsed.{badForm, found, exactly}
 use Rattle.record_text.specs.Field.{moreDigits, number, signed, numberText, signedText}
 use Rattle.record_text.specs.Line.{depthTitle, sizeLine, sizeText, valueLine, recordLine, recordText}
 use Rattle.record_text.specs.Lines.{refusedAt, read, manyLines, noMeaning}

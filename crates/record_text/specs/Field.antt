@@ -45,5 +45,6 @@ signed e (b ∷ s) = cond (eqb b 45) (andThen (number e s) afterMinus) (andThen 
 unfoldable pub numberText : ℕ → ℕ → List ℕ
 numberText e n = numeral n ++ e ∷ []
 
+-- the same of a signed number
 unfoldable pub signedText : ℕ → ℤ → List ℕ
 signedText e z = signedNumeral z ++ e ∷ []

@@ -25,19 +25,23 @@ recordTitle =
 abbrev pub sizeFields : Parser (ℕ × (ℕ × (ℕ × ℕ)))
 sizeFields = number 32 then number 32 then number 32 then number 10
 
+-- its fields by name
 abbrev pub sizeOf : ℕ × (ℕ × (ℕ × ℕ)) → SizeFields
 sizeOf f = record { n = f .0; width = f .1 .0; height = f .1 .1 .0; values = f .1 .1 .1 }
 
+-- the line read
 unfoldable pub sizeLine : Parser SizeFields
 sizeLine = mapped sizeOf sizeFields
 
+-- the line printed
 unfoldable pub sizeText : SizeFields → List ℕ
 sizeText h = numberText 32 (h .n) ++ (numberText 32 (h .width) ++ (numberText 32 (h .height) ++ numberText 10 (h .values)))
 
--- the line of a table value
+-- the line of a table value, read
 unfoldable pub valueLine : Parser ℕ
 valueLine = number 10
 
+-- and printed
 unfoldable pub valueText : ℕ → List ℕ
 valueText v = numberText 10 v
 
@@ -45,11 +49,14 @@ valueText v = numberText 10 v
 abbrev pub recordFields : Parser (ℕ × (ℕ × (ℤ × ℤ)))
 recordFields = number 32 then number 32 then signed 32 then signed 10
 
+-- its fields by name
 abbrev pub recordOf : ℕ × (ℕ × (ℤ × ℤ)) → RecordFields
 recordOf f = record { kind = f .0; entry = f .1 .0; off0 = f .1 .1 .0; off1 = f .1 .1 .1 }
 
+-- the line read
 unfoldable pub recordLine : Parser RecordFields
 recordLine = mapped recordOf recordFields
 
+-- the line printed
 unfoldable pub recordText : RecordFields → List ℕ
 recordText r = numberText 32 (r .kind) ++ (numberText 32 (r .entry) ++ (signedText 32 (r .off0) ++ signedText 10 (r .off1)))

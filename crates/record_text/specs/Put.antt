@@ -34,15 +34,18 @@ pub record Written (old new : List ℕ) (at : ℕ) (text : List ℕ) (next : ℕ
 abbrev pub printedIf : Bool → List ℕ → List ℕ
 printedIf printable text = cond printable text []
 
--- whether a value has a numeral
+-- whether a number has a numeral
 abbrev pub numberPrintable : ℕ → Bool
 numberPrintable n = ltb n numeralEnd
 
+-- whether a signed number has one behind its sign
 abbrev pub signedPrintable : ℤ → Bool
 signedPrintable z = ltb (natAbs z) numeralEnd
 
+-- whether each number of a size line has one
 unfoldable pub sizePrintable : SizeFields → Bool
 sizePrintable h = numberPrintable (h .n) && (numberPrintable (h .width) && (numberPrintable (h .height) && numberPrintable (h .values)))
 
+-- whether each number of a record line has one
 unfoldable pub recordPrintable : RecordFields → Bool
 recordPrintable r = numberPrintable (r .kind) && (numberPrintable (r .entry) && (signedPrintable (r .off0) && signedPrintable (r .off1)))

@@ -18,25 +18,31 @@ use Rattle.record_text.specs.declared.line.RecordRead.{RecordRead}
 use Rattle.record_text.specs.declared.line.RecordRead.the-variants as recordRead
 use Rattle.record_text.specs.Parsed.{Parsed, badForm, found}
 
+-- the bytes from a cursor on
 abbrev pub remaining : List ℕ → Cursor → List ℕ
 remaining s c = drop (c .at) s
 
+-- a number field
 abbrev pub numberTold : List ℕ → NumberRead → Parsed ℕ
 numberTold s (numberRead.Value v c) = found v (remaining s c)
 numberTold s numberRead.Bad = badForm
 
+-- a signed field
 abbrev pub signedTold : List ℕ → SignedRead → Parsed ℤ
 signedTold s (signedRead.Value v c) = found v (remaining s c)
 signedTold s signedRead.Bad = badForm
 
+-- a given text
 abbrev pub textTold : List ℕ → TextRead → Parsed (Unit {0})
 textTold s (textRead.Past c) = found tt (remaining s c)
 textTold s textRead.Bad = badForm
 
+-- a size line
 abbrev pub sizeTold : List ℕ → SizeRead → Parsed SizeFields
 sizeTold s (sizeRead.Value h c) = found h (remaining s c)
 sizeTold s sizeRead.Bad = badForm
 
+-- a record line
 abbrev pub recordTold : List ℕ → RecordRead → Parsed RecordFields
 recordTold s (recordRead.Value r c) = found r (remaining s c)
 recordTold s recordRead.Bad = badForm

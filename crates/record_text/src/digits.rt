@@ -27,6 +27,7 @@ fn digit_count(x: u32) -> u32
     1
 }
 
+// 10 to the power k.
 fn power_of_ten(k: u32) -> u32
     requires { ⌜ k < 5 ⌝ }
     ensures { λ r. ⌜ r ≡ 10 ^ k ⌝ }

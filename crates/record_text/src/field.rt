@@ -21,6 +21,7 @@ pub enum SignedRead {
     Bad,
 }
 
+// A byte as a number.
 fn wide(b: u8) -> u32
     ensures { λ r. ⌜ r ≡ b ⌝ }
 {

@@ -15,12 +15,14 @@ use crate::put::number_printable;
 use crate::put::put_text;
 use crate::put::signed_printable;
 
+// a and b.
 fn both(a: bool, b: bool) -> bool
     ensures { λ r. ⌜ r ≡ a && b ⌝ }
 {
     if a { b } else { false }
 }
 
+// Whether each number of a size line has a numeral.
 fn size_printable(h: SizeFields) -> bool
     ensures { λ r. ⌜ r ≡ sizePrintable h ⌝ }
 {
@@ -52,6 +54,7 @@ pub fn put_size_line(out: &mut [u8], from: Cursor, h: SizeFields) -> Cursor
     put_text(out, from, &line[..len])
 }
 
+// Whether each number of a record line has a numeral.
 fn record_printable(r: RecordFields) -> bool
     ensures { λ t. ⌜ t ≡ recordPrintable r ⌝ }
 {

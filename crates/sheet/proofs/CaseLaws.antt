@@ -2,18 +2,17 @@
 use Prim.Native.Nat.{ℕ, _+_, _-_, _*_, _≤_, _<_, min}
 use mathlib.Core.Bool.{Bool, true, false, cond}
 use mathlib.Core.List.{List}
-use mathlib.Core.Logic.{_⊎_, ⊎-elim}
-use mathlib.Core.Path.{_≡_, refl, sym, ap, _∙_}
+use mathlib.Core.Path.{_≡_, sym, ap, _∙_}
 use native.Mathlib.Nat.{add-zero}
 use native.Mathlib.Decide.{decLt}
 use native.Mathlib.Omega.{arith}
 use borrow.Author.Tests.{lt-ltb, le-ltb, le-leb, lt-leb}
-use lib.Dec.{leb, ltb}
+use lib.Dec.{ltb}
 use lib.ListN.{getD}
 use Rattle.arith.specs.Square.{place}
 use Rattle.arith.proofs.ListLaws.{listOf-at}
 use Rattle.prediction.specs.Sides.{leftAt, topAt}
-use Rattle.sheet.specs.Neighbours.{Source, sample, nowhere, readFrom, aboveCount, leftSource, topSource, sourceAt, neighboursAt}
+use Rattle.sheet.specs.Neighbours.{readFrom, aboveCount, leftSource, topSource, sourceAt, neighboursAt}
 use Rattle.sheet.specs.Laws.{NeighbourCases}
 use Rattle.sheet.proofs.SourceLaws.{above-some, left-own, left-top, left-nowhere, top-own, top-left, top-nowhere}
 

@@ -1,34 +1,29 @@
 -- Composing: no choice or placing that it makes is refused where the checks pass. Assumes nothing.
-use Prim.Native.Nat.{ℕ, zero, suc, _+_, _-_, _*_, _≤_, _<_}
-use mathlib.Core.Bool.{Bool, true, false, cond, _&&_, _||_}
+use Prim.Native.Nat.{ℕ, _-_, _*_, _≤_}
+use mathlib.Core.Bool.{Bool, true, false, cond}
 use mathlib.Core.List.{List, []}
 use mathlib.Core.Logic.{_⊎_, inl, inr, ⊎-elim}
-use mathlib.Core.Path.{_≡_, refl, sym, ap, _∙_}
+use mathlib.Core.Path.{_≡_, refl, sym, _∙_}
 use native.Mathlib.Omega.{arith}
-use borrow.Author.Tests.{eq-eqb, le-leb, lt-ltb, ltb-true}
-use lib.Dec.{eqb, leb, ltb}
+use borrow.Author.Tests.{le-leb, lt-ltb}
 use lib.IntN.{ℤ, natAbs}
-use lib.ListN.{length, getD}
-use Rattle.arith.specs.Checks.{unless}
-use Rattle.arith.proofs.Bools.{both-of, either-of}
-use Rattle.arith.proofs.CheckLaws.{passed}
+use lib.ListN.{length}
 use Rattle.arith.proofs.ListLaws.{length-listOf}
 use Rattle.depth_table.specs.Table.{tableOk}
-use Rattle.pattern.specs.Size.{sizeOk, wordOk}
 use Rattle.pattern.proofs.SizeLaws.{one-le-square}
 use Rattle.prediction.specs.Offset.{offsetOk}
-use Rattle.choice.specs.Record.{Case, Record, Within, PatternIn, LeastRecord}
+use Rattle.choice.specs.Record.{PatternIn, LeastRecord}
 use Rattle.choice.specs.Search.{chosen}
-use Rattle.choice.specs.Answer.{wordsOk, chooseRefusal}
+use Rattle.choice.specs.Answer.{chooseRefusal}
 use Rattle.choice.proofs.AcceptLaws as accept
 use Rattle.choice.proofs.AcceptLaws.{words-at, accepted}
 use Rattle.choice.proofs.LeastLaws.{chosen-least}
 use Rattle.sheet.specs.Neighbours.{neighbours, neighboursAt}
 use Rattle.sheet.specs.Samples.{cut}
-use Rattle.sheet.specs.State.{after, area, blocksOf, nextX, nextY, lengthsOk, stateRefusal, openRefusal, Open, Lengths}
+use Rattle.sheet.specs.State.{nextX, nextY, Open, Lengths}
 use Rattle.sheet.specs.Meaning.{kindRefusal, offsetRefusal, recordRefusal}
-use Rattle.sheet.specs.Place.{Material, textured, nextTexture, placeRefusal}
-use Rattle.sheet.specs.Compose.{missing, Task, composeCase, chosenNext, choiceRefusal}
+use Rattle.sheet.specs.Place.{textured, nextTexture, placeRefusal}
+use Rattle.sheet.specs.Compose.{Task, composeCase, chosenNext, choiceRefusal}
 use Rattle.sheet.specs.declared.Sheet.{Sheet}
 use Rattle.sheet.proofs.StateLaws.{lengths-do, open-none}
 use Rattle.sheet.proofs.MeaningLaws.{kind-zero, kind-one}

@@ -1,12 +1,11 @@
 -- What `compose` answers and leaves, by what its checks say. Assumes nothing.
 use Prim.Native.Nat.{ℕ, _-_, _≤_, min}
-use mathlib.Core.Bool.{Bool, true}
+use mathlib.Core.Bool.{Bool}
 use mathlib.Core.List.{List}
 use mathlib.Core.Path.{_≡_, sym, ap, _∙_}
 use native.Mathlib.Omega.{arith}
 use borrow.Author.Tests.{eqb-true, leb-true}
 use lib.Dec.{eqb, leb}
-use lib.IntN.{ℤ}
 use lib.ListN.{length}
 use Rattle.arith.specs.Checks.{refused, answer}
 use Rattle.arith.proofs.Bools.{both-of}

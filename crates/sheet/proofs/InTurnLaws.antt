@@ -2,16 +2,14 @@
 use Prim.Native.Nat.{ℕ, zero, suc, _+_, _-_, _≤_, _<_}
 use mathlib.Core.List.{List}
 use mathlib.Core.Path.{_≡_, refl, sym, ap, _∙_}
-use native.Mathlib.Nat.{add-zero, add-assoc}
 use native.Mathlib.Numerals.{add-one}
 use native.Mathlib.Omega.{arith}
-use lib.ListN.{length, getD}
+use lib.ListN.{length}
 use lib.Seq.{ext-getD}
 use Rattle.arith.specs.Checks.{given}
 use Rattle.choice.specs.Record.{Record}
-use Rattle.sheet.specs.Grid.{blockHolding}
-use Rattle.sheet.specs.State.{after, area, blocksOf, Open}
-use Rattle.sheet.specs.Place.{Material, placedSamples, placeRefusal, placeAnswer, placeAfter, placedInTurn}
+use Rattle.sheet.specs.State.{after, area, Open}
+use Rattle.sheet.specs.Place.{Material, placeRefusal, placeAnswer, placeAfter, placedInTurn}
 use Rattle.sheet.specs.Compose.{missing}
 use Rattle.sheet.specs.Laws.{SameBefore}
 use Rattle.sheet.specs.declared.Sheet.{Sheet}

@@ -13,6 +13,7 @@ pub mod PlaceLaws
 pub mod OtherLaws
 pub mod ComposeLaws
 pub mod TurnLaws
+pub mod TurnEnds
 pub mod EndLaws
 pub mod InTurnLaws
 pub mod ComposedLaws

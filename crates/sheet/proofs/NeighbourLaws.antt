@@ -3,8 +3,8 @@ use Prim.Native.Nat.{ℕ, zero, suc, _+_, _-_, _*_, _/_, _%_, _≤_, _<_, min}
 use mathlib.Core.Bool.{Bool, true, false, cond}
 use mathlib.Core.List.{List}
 use mathlib.Core.Logic.{_⊎_, inl, inr, ⊎-elim}
-use mathlib.Core.Path.{_≡_, refl, sym, ap, _∙_}
-use native.Mathlib.Nat.{mul-le-mul-right, suc-mul, mod-lt, div-mul-le-self, div-lt-iff-lt-mul, le-div-iff-mul-le, mul-comm, div-add-mod'}
+use mathlib.Core.Path.{_≡_, refl, ap, _∙_}
+use native.Mathlib.Nat.{mul-le-mul-right, suc-mul, mod-lt, div-lt-iff-lt-mul, le-div-iff-mul-le, div-add-mod'}
 use native.Mathlib.Omega.{arith}
 use borrow.Author.Tests.{ltb-true, leb-true}
 use lib.Arith.{digits-div, digits-mod}
@@ -12,7 +12,7 @@ use lib.Dec.{leb, ltb}
 use lib.ListN.{getD}
 use Rattle.arith.specs.Square.{place}
 use Rattle.arith.proofs.ListLaws.{listOf-at, listOf-ext}
-use Rattle.sheet.specs.Grid.{blocks, blockX, blockY, blockHolding, Inside}
+use Rattle.sheet.specs.Grid.{blocks, blockX, blockY, blockHolding}
 use Rattle.sheet.specs.Neighbours.{Source, sample, nowhere, readFrom, run, leftCount, topCount, leftOwn, topOwn, leftSource, topSource, sourceAt, neighboursAt, neighbours}
 use Rattle.sheet.specs.Laws.{SameBefore, SampleBefore}
 use Rattle.sheet.proofs.GridLaws.{per-pos, block-inside, place-in}

@@ -1,26 +1,24 @@
 -- Placing writes its own block only, by what stands in the blocks before it. Assumes nothing.
-use Prim.Native.Nat.{ℕ, zero, suc, _+_, _-_, _*_, _/_, _%_, _≤_, _<_}
-use mathlib.Core.Bool.{Bool, true, false, cond}
+use Prim.Native.Nat.{ℕ, _+_, _-_, _*_, _/_, _%_, _≤_, _<_}
+use mathlib.Core.Bool.{Bool, true, false}
 use mathlib.Core.List.{List, []}
 use mathlib.Core.Path.{_≡_, refl, sym, ap, ap₂, _∙_}
-use native.Mathlib.Decide.{ℕ-discrete}
-use native.Mathlib.Nat.{div-add-mod', div-lt-iff-lt-mul, mod-lt, mul-comm, add-zero}
+use native.Mathlib.Nat.{div-add-mod', div-lt-iff-lt-mul, mod-lt, mul-comm}
 use native.Mathlib.Omega.{arith}
 use lib.Arith.{digits-lt, digits-div, digits-mod}
 use lib.ListN.{length, getD}
-use lib.Seq.{ext-getD}
 use Rattle.arith.specs.Square.{place}
 use Rattle.arith.proofs.Bools.{clash, both-of}
 use Rattle.choice.specs.Record.{caseOf, Record, predictionOf}
 use Rattle.sheet.specs.Grid.{sideOk, blockX, blockY, blockHolding}
 use Rattle.sheet.specs.Samples.{covers, written}
-use Rattle.sheet.specs.State.{after, area, blocksOf, nextX, nextY, Open}
+use Rattle.sheet.specs.State.{area, blocksOf, nextX, nextY, Open}
 use Rattle.sheet.specs.Place.{Material, nextTexture, placeCase, placedSamples}
 use Rattle.sheet.specs.Laws.{SameBefore}
 use Rattle.sheet.specs.declared.Sheet.{Sheet}
 use Rattle.sheet.proofs.StateLaws.{multiple}
 use Rattle.sheet.proofs.NeighbourLaws.{neighbours-same}
-use Rattle.sheet.proofs.SampleLaws.{Covered, covered, covers-all, written-covered, written-others}
+use Rattle.sheet.proofs.SampleLaws.{covered, covers-all, written-covered, written-others}
 
 -- a sample that block k covers is held by block k
 along : (n q c : ℕ) → q * n ≤ c → c < q * n + n → c / n ≡ q

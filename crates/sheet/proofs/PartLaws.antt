@@ -3,7 +3,7 @@ use Prim.Native.Nat.{ℕ, _≤_, _<_}
 use mathlib.Core.List.{List}
 use mathlib.Core.Path.{_≡_, sym, _∙_}
 use native.Mathlib.Omega.{arith}
-use lib.ListN.{length, take, getD}
+use lib.ListN.{take}
 use lib.Seq.{length-take-le, getD-take, ext-getD}
 use Rattle.arith.specs.Lists.{listOf, upto}
 use Rattle.arith.proofs.ListLaws.{length-listOf, listOf-at, length-upto, upto-at}

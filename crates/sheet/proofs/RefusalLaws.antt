@@ -3,7 +3,7 @@ use Prim.Native.Nat.{ℕ, suc}
 use mathlib.Core.Bool.{Bool, true, false}
 use mathlib.Core.Path.{_≡_, refl}
 use native.Mathlib.Omega.{arith}
-use Rattle.arith.specs.Checks.{unless, Answer, refused, given}
+use Rattle.arith.specs.Checks.{unless, refused, given}
 
 -- a check that fails has the same number, whatever comes after it
 pub unless-kept : (b : Bool) (k : ℕ) {x y : ℕ} → ((x ≡ 0 → ⊥) → y ≡ x) → (unless b (suc k) x ≡ 0 → ⊥) → unless b (suc k) y ≡ unless b (suc k) x

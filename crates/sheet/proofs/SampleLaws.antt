@@ -16,7 +16,7 @@ use Rattle.arith.proofs.Bools.{both-of}
 use Rattle.arith.proofs.ListLaws.{length-listOf, listOf-at, listOf-ext, stored-all}
 use Rattle.arith.proofs.SquareLaws.{column-lt, row-lt, place-lt, place-own}
 use Rattle.sheet.specs.Grid.{Inside}
-use Rattle.sheet.specs.Samples.{covers, writtenAt, written, cut}
+use Rattle.sheet.specs.Samples.{covers, writtenAt, written}
 use Rattle.sheet.proofs.GridLaws.{sample-in}
 
 -- column c and row r lie in the block

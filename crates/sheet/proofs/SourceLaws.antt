@@ -4,7 +4,7 @@ use mathlib.Core.Bool.{Bool, true, false, cond}
 use mathlib.Core.Path.{_≡_, refl, ap, _∙_}
 use native.Mathlib.Omega.{arith}
 use borrow.Author.Tests.{leb-true, lt-ltb, le-ltb}
-use lib.Dec.{leb, ltb}
+use lib.Dec.{leb}
 use Rattle.arith.specs.Square.{place}
 use Rattle.sheet.specs.Grid.{Inside}
 use Rattle.sheet.specs.Neighbours.{Source, sample, nowhere, run, leftCount, aboveCount, topCount, leftOwn, topOwn, leftSource, topSource}

@@ -1,28 +1,21 @@
 -- The loop that composes, turn by turn. Assumes nothing.
-use Prim.Native.Nat.{ℕ, zero, suc, _+_, _-_, _≤_, _<_}
-use mathlib.Core.Bool.{true}
-use mathlib.Core.List.{List, [], _∷_, _++_}
-use mathlib.Core.Logic.{_⊎_, inl, inr, ⊎-elim}
-use mathlib.Core.Path.{_≡_, refl, sym, ap, ap₂, _∙_}
+use Prim.Native.Nat.{ℕ, suc, _+_, _-_, _≤_, _<_}
+use mathlib.Core.List.{List}
+use mathlib.Core.Logic.{_⊎_, inl, inr}
+use mathlib.Core.Path.{_≡_, refl, sym, ap, _∙_}
 use native.Mathlib.Nat.{add-assoc, add-zero}
 use native.Mathlib.Numerals.{add-one}
 use native.Mathlib.Omega.{arith}
 use lib.IntN.{ℤ}
-use lib.ListN.{length, getD, set, drop, length-set}
+use lib.ListN.{length, getD, set, drop}
 use lib.Seq.{drop-cons, set-at, append-snoc}
-use Rattle.arith.specs.Checks.{Answer, refused, given, answer}
 use Rattle.arith.specs.Lists.{listOf}
-use Rattle.arith.proofs.CheckLaws.{lent-refused, lent-given, given-means, refused-means}
 use Rattle.arith.proofs.ListLaws.{length-listOf}
-use Rattle.depth_table.specs.Table.{tableOk}
 use Rattle.choice.specs.Record.{Record}
-use Rattle.choice.specs.Search.{chosen}
-use Rattle.choice.specs.Answer.{chooseRefusal, chooseAnswer}
-use Rattle.sheet.specs.State.{stateOf, after, area, blocksOf, finished, Open, Lengths}
-use Rattle.sheet.specs.Place.{placedSamples, placeRefusal}
-use Rattle.sheet.specs.Compose.{missing, Task, composeCase, chosenNext, composedTo, composedRecord, over, Leaves, choiceRefusal, Ready}
+use Rattle.sheet.specs.State.{stateOf, after, blocksOf, finished, Open}
+use Rattle.sheet.specs.Place.{placedSamples}
+use Rattle.sheet.specs.Compose.{missing, Task, chosenNext, composedTo, composedRecord, over, choiceRefusal}
 use Rattle.sheet.specs.declared.Sheet.{Sheet}
-use Rattle.sheet.proofs.ComposeLaws.{choose-refusal, chosen-placed}
 
 -- ---- a slice whose first places are replaced
 
@@ -118,107 +111,3 @@ module _ (S : Sheet) (T : Task) (samples0 kinds0 entries0 : List ℕ) (first0 se
         second-are = qs ∙ over-more _ second0 k (g .second-are) (ap (λ (x : Record). x .off1) c) hs;
         begun = inr none;
       }
-
--- ---- what holds in a turn
-
--- the state has a block to place, and what is lent fits it
-pub record Turn (S : Sheet) (T : Task) (state : Sheet) (samples : List ℕ) : Type 0 where
-  pub is-open : Open state
-  pub lengths : Lengths state (length samples) (length (T .material .list)) (T .material .count) (length (T .material .texture))
-  pub original : length (T .original) ≡ area state
-  pub sound : tableOk (T .material .table) ≡ true
-  pub refusal : choiceRefusal state T ≡ choiceRefusal S T
-
-pub turn :
-    (S : Sheet) (T : Task) (samples0 kinds0 entries0 : List ℕ) (first0 second0 : List ℤ)
-    → Ready S T (length samples0) (length kinds0) (length entries0) (length first0) (length second0)
-    → {k : ℕ} {state : Sheet} {samples kinds entries : List ℕ} {first second : List ℤ}
-    → Going S T samples0 kinds0 entries0 first0 second0 k state samples kinds entries first second
-    → k < missing S → length samples ≡ length samples0 → Turn S T state samples
-unfolding choiceRefusal
-turn S T samples0 kinds0 entries0 first0 second0 ready {k} {state} {samples} going more same =
-    record {
-      is-open = open-after S k (ready .is-open) more (going .at-k);
-      lengths =
-          rw (going .at-k, same)
-          (record {
-            whole = ready .lengths .whole;
-            optional = ready .lengths .optional;
-            inside = ready .lengths .inside;
-            few = ready .lengths .few;
-          });
-      original = rw (going .at-k) (ready .same);
-      sound = ready .sound;
-      refusal = ap (λ (u : Sheet). choiceRefusal u T) (going .at-k);
-    }
-
-module _ {S : Sheet} {T : Task} {state : Sheet} {samples : List ℕ} (t : Turn S T state samples) where
-  -- the choice for the block is refused where composing is
-  turn-refusal : chooseRefusal (composeCase state T samples) ≡ choiceRefusal S T
-  turn-refusal =
-      choose-refusal state T samples (t .is-open) (t .lengths .inside) (t .lengths .few) (t .sound) ∙ t .refusal
-
-  pub turn-refused : {number : ℕ} → refused number ≡ chooseAnswer (composeCase state T samples) → (number ≡ choiceRefusal S T) × (number ≡ 0 → ⊥)
-  unfolding chooseAnswer
-  turn-refused {number} e =
-      let m = refused-means (chooseRefusal (composeCase state T samples)) number (chosen (composeCase state T samples)) (sym e) in
-      (m .0 ∙ turn-refusal, λ z. m .1 (sym (m .0) ∙ z))
-
-  -- or its record is chosen, and `place` does not refuse it
-  module _ {r : Record} {cost : ℕ} (e : given (r, cost) ≡ chooseAnswer (composeCase state T samples)) where
-    turn-means : (chooseRefusal (composeCase state T samples) ≡ 0) × (chosen (composeCase state T samples) ≡ (r, cost))
-    unfolding chooseAnswer
-    turn-means = given-means (chooseRefusal (composeCase state T samples)) (chosen (composeCase state T samples)) (r, cost) (sym e)
-
-    pub turn-none : choiceRefusal S T ≡ 0
-    turn-none = sym turn-refusal ∙ turn-means .0
-
-    pub turn-chosen : r ≡ chosenNext state T samples
-    turn-chosen = sym (ap (λ (p : Record × ℕ). p .0) (turn-means .1))
-
-    pub turn-placed : placeRefusal state (length samples) (T .material) r ≡ 0
-    turn-placed =
-        rw turn-chosen
-        (chosen-placed state T samples (t .is-open) (t .lengths .inside) (t .lengths .few) (t .sound) (t .refusal ∙ turn-none) (t .lengths))
-
--- ---- the ends of the loop
-
-module _ (S : Sheet) (T : Task) (samples0 kinds0 entries0 : List ℕ) (first0 second0 : List ℤ) {k : ℕ} {state : Sheet} {samples kinds entries : List ℕ} {first second : List ℤ} (going : Going S T samples0 kinds0 entries0 first0 second0 k state samples kinds entries first second) where
-  -- a refusal comes at the first block, when nothing is altered
-  pub left-refused :
-      (choiceRefusal S T ≡ 0 → ⊥)
-      → Leaves (choiceRefusal S T) S T samples0 kinds0 entries0 first0 second0 samples kinds entries first second
-  unfolding composedTo over listOf
-  left-refused h =
-      let z : k ≡ 0 = ⊎-elim (λ e. e) (λ e. absurd (h e)) (going .begun) in
-      record {
-        samples-are = (rw z at (going .painted)) ∙ lent-refused (choiceRefusal S T) _ samples0 h;
-        kinds-are = (rw z at (going .kinds-are)) ∙ lent-refused (choiceRefusal S T) _ kinds0 h;
-        entries-are = (rw z at (going .entries-are)) ∙ lent-refused (choiceRefusal S T) _ entries0 h;
-        first-are = (rw z at (going .first-are)) ∙ lent-refused (choiceRefusal S T) _ first0 h;
-        second-are = (rw z at (going .second-are)) ∙ lent-refused (choiceRefusal S T) _ second0 h;
-      }
-
-  -- all blocks are composed
-  module _ (all : k ≡ missing S) (some : 0 < missing S) where
-    pub end-none : choiceRefusal S T ≡ 0
-    end-none = ⊎-elim (λ e. absurd (omega arith)) (λ e. e) (going .begun)
-
-    pub left-all : Leaves (choiceRefusal S T) S T samples0 kinds0 entries0 first0 second0 samples kinds entries first second
-    left-all =
-        record {
-          samples-are = (rw all at (going .painted)) ∙ lent-given (choiceRefusal S T) _ samples0 end-none;
-          kinds-are = (rw all at (going .kinds-are)) ∙ lent-given (choiceRefusal S T) _ kinds0 end-none;
-          entries-are = (rw all at (going .entries-are)) ∙ lent-given (choiceRefusal S T) _ entries0 end-none;
-          first-are = (rw all at (going .first-are)) ∙ lent-given (choiceRefusal S T) _ first0 end-none;
-          second-are = (rw all at (going .second-are)) ∙ lent-given (choiceRefusal S T) _ second0 end-none;
-        }
-
-    told : Sheet → ℕ → Answer (Sheet × ℕ)
-    told u j = given (u, j)
-
-    pub told-all :
-        {m : ℕ} → S .placed ≤ blocksOf S → m ≡ missing S → _≡_ {A = Answer (Sheet × ℕ)} (given (state, m)) (answer (choiceRefusal S T) (finished S, missing S))
-    unfolding told
-    told-all {m} h e =
-        rw end-none (ap₂ told (going .at-k ∙ after-end S k h all) e)

@@ -16,7 +16,7 @@ use Rattle.prediction.specs.Offset.{offsetOk}
 use Rattle.prediction.specs.Block.{levelOf, sampleOf, predicted}
 use Rattle.choice.specs.Record.{Record}
 use Rattle.choice.specs.Search.{sideCost, bestCost, bestPattern, chosen}
-use Rattle.sheet.specs.Grid.{sideOk, blocks, blockX, blockY, blockHolding}
+use Rattle.sheet.specs.Grid.{sideOk, blockX, blockY, blockHolding}
 use Rattle.sheet.specs.Neighbours.{leftSource, topSource, neighboursAt, neighbours}
 use Rattle.sheet.specs.Samples.{written, cut}
 use Rattle.sheet.specs.State.{stateOf, lengthsOk, stateRefusal, openRefusal}

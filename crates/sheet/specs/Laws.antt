@@ -1,7 +1,6 @@
 -- What is shown of a sheet, as statements. Assumes nothing.
 use Prim.Native.Nat.{ℕ, _+_, _-_, _*_, _≤_, _<_}
 use mathlib.Core.List.{List}
-use mathlib.Core.Logic.{_⊎_}
 use mathlib.Core.Path.{_≡_}
 use lib.ListN.{getD}
 use Rattle.arith.specs.Checks.{given}

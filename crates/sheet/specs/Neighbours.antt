@@ -1,6 +1,6 @@
 -- Document 01, "Sheet": the neighbours (document 01: the border) of a block, read from the sheet's samples. Assumes nothing.
 use Prim.Native.Nat.{ℕ, _+_, _-_, _*_, min}
-use mathlib.Core.Bool.{Bool, cond}
+use mathlib.Core.Bool.{cond}
 use mathlib.Core.List.{List}
 use lib.Dec.{leb, ltb}
 use lib.ListN.{getD}

@@ -2,7 +2,7 @@
 ghost use mathlib.Core.Path.{_≡_};
 ghost use mathlib.Core.Bool.{cond};
 ghost use mathlib.Core.Logic.{_⊎_};
-ghost use Prim.Native.Nat.{_*_, _<_, _≤_, min};
+ghost use Prim.Native.Nat.{_*_, _<_};
 ghost use lib.ListN.{length, set, take};
 ghost use Rattle.arith.specs.Checks.{answer};
 ghost use Rattle.choice.specs.Answer.{chooseAnswer, chooseTold, recordTold};

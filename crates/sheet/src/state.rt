@@ -2,10 +2,10 @@
 ghost use mathlib.Core.Path.{_≡_};
 ghost use mathlib.Core.Bool.{_&&_, _||_};
 ghost use lib.Dec.{eqb, leb};
-ghost use Prim.Native.Nat.{_<_, _≤_};
+ghost use Prim.Native.Nat.{_<_};
 ghost use Rattle.arith.specs.Checks.{unless};
 ghost use Rattle.sheet.specs.Grid.{sideOk, blocks};
-ghost use Rattle.sheet.specs.State.{sidesOk, stateOf, lengthsOk, blocksOf, newRefusal, newAnswer, openRefusal};
+ghost use Rattle.sheet.specs.State.{sidesOk, stateOf, lengthsOk, blocksOf, newAnswer, openRefusal};
 ghost use Rattle.sheet.specs.Told.{newTold};
 use crate::Made;
 use crate::Sheet;

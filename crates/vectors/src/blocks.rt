@@ -6,7 +6,7 @@ use crate::samples::Source;
 use crate::samples::samples;
 
 // The samples of the transposed block.
-pub(crate) fn transposed(n: usize, block: &[u8]) -> [u8; 64] {
+fn transposed(n: usize, block: &[u8]) -> [u8; 64] {
     let mut out = [0u8; 64];
     let b = pattern::transposed(n, pattern::block_of(n, block));
     pattern::write_block(n, b, parts::first_mut(&mut out, parts::area(n)));
@@ -19,23 +19,16 @@ fn line(n: usize, case: usize)
     let area = parts::area(n);
     let block = samples(Source::Bytes, n, (500 + 10 * case + n) as u64);
     let out = transposed(n, parts::first(&block, area));
-    output::text(b"transposed");
-    output::number(n);
-    output::number(case);
+    output::head(b"transposed", n, case);
     output::samples(parts::first(&out, area));
     output::end();
 }
 
-fn lines(n: usize)
+pub(crate) fn lines(n: usize)
     requires { ⌜ (1 ≤ n) × (n ≤ 8) ⌝ }
 {
     line(n, 0);
     line(n, 1);
     line(n, 2);
     line(n, 3);
-}
-
-pub(crate) fn print() {
-    lines(4);
-    lines(8);
 }

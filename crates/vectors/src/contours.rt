@@ -17,23 +17,16 @@ fn contour(n: usize, texture: &[u8]) {
 fn line(case: usize, n: usize)
     requires { ⌜ (1 ≤ n) × (n ≤ 8) × (case ≤ 23) ⌝ }
 {
-    output::text(b"contour");
-    output::number(n);
-    output::number(case);
+    output::head(b"contour", n, case);
     let texture = samples(Source::Texture(case), n, (case * 1000 + n) as u64);
     contour(n, parts::first(&texture, parts::area(n)));
     output::end();
 }
 
-fn lines(n: usize)
+pub(crate) fn lines(n: usize)
     requires { ⌜ (1 ≤ n) × (n ≤ 8) ⌝ }
 {
     for case in 0..24 {
         line(case, n);
     }
-}
-
-pub(crate) fn print() {
-    lines(4);
-    lines(8);
 }

@@ -14,20 +14,25 @@ fn index(table: &[u8], d: u8) {
     }
 }
 
-fn line(table: &[u8]) {
-    output::text(b"indices");
-    output::number(table.len());
+fn indices(table: &[u8]) {
     for d in 0..256usize {
         index(table, (d % 256) as u8);
     }
+}
+
+fn line(table: usize) {
+    let values = tables::values(table);
+    let count = tables::count(table);
+    output::text(b"indices");
+    output::number(count);
+    indices(parts::first(&values, count));
     output::end();
 }
 
 pub(crate) fn print() {
-    line(&[128]);
-    line(&[100, 140]);
-    line(&[0, 255]);
-    line(&[100, 128, 140]);
-    let counting = tables::values(7);
-    line(parts::first(&counting, 256));
+    line(0);
+    line(11);
+    line(12);
+    line(2);
+    line(3);
 }

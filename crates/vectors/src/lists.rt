@@ -20,17 +20,10 @@ fn words(list: &[u64]) {
     }
 }
 
-fn lines(n: usize) {
+pub(crate) fn lines(n: usize) {
     let mut list = [0u64; 756];
     let count = build(n, &mut list);
-    output::text(b"wedgelets");
-    output::number(n);
-    output::number(count);
+    output::head(b"wedgelets", n, count);
     output::end();
     words(parts::words(&list, count));
-}
-
-pub(crate) fn print() {
-    lines(4);
-    lines(8);
 }

@@ -1,7 +1,5 @@
-// Prints the vectors that outside/README.md describes, section by section, from the answers of the public calls.
-mod across;
+// Prints the vectors that outside/README.md describes, section by section up to `predictions`, from the answers of the public calls.
 mod blocks;
-mod choices;
 mod contours;
 mod indices;
 mod lists;
@@ -17,14 +15,15 @@ mod tables;
 mod words;
 
 fn main() {
-    lists::print();
-    contours::print();
+    lists::lines(4);
+    lists::lines(8);
+    contours::lines(4);
+    contours::lines(8);
     indices::print();
-    blocks::print();
+    blocks::lines(4);
+    blocks::lines(8);
     table_refusals::print();
     pattern_refusals::print();
     sides::print();
     predictions::print();
-    choices::print();
-    across::print();
 }

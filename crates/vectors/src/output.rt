@@ -46,6 +46,13 @@ pub(crate) fn digits(w: u64) {
     io::print_hex(STDOUT_FILENO, w, 16);
 }
 
+// The start of a line: what it tells of, and two numbers.
+pub(crate) fn head(name: &[u8], a: usize, b: usize) {
+    text(name);
+    number(a);
+    number(b);
+}
+
 // A space and a word.
 pub(crate) fn word(w: u64) {
     text(b" ");

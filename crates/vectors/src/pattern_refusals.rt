@@ -16,9 +16,7 @@ fn list_refusal(n: usize, list: &mut [u64]) -> u8 {
 fn list_line(n: usize, length: usize) {
     let mut list = [0u64; 756];
     let refusal = list_refusal(n, parts::words_mut(&mut list, length));
-    output::text(b"refusal wedgelets");
-    output::number(n);
-    output::number(length);
+    output::head(b"refusal wedgelets", n, length);
     output::small(refusal);
     output::end();
 }
@@ -59,9 +57,7 @@ fn samples_refusal(n: usize, samples: &mut [u8]) -> u8 {
 fn samples_line(n: usize, length: usize) {
     let mut samples = [0u8; 256];
     let refusal = samples_refusal(n, parts::first_mut(&mut samples, length));
-    output::text(b"refusal contour");
-    output::number(n);
-    output::number(length);
+    output::head(b"refusal contour", n, length);
     output::small(refusal);
     output::end();
 }

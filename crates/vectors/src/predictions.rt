@@ -42,9 +42,11 @@ fn line(n: usize, word: u64, border: &[u8], table: &[u8], off0: i32, off1: i32, 
     output::end();
 }
 
-// The seven pairs of offsets.
-fn pairs(n: usize, word: u64, border: &[u8], table: &[u8]) {
+// The seven pairs of offsets, with a table by its number.
+fn pairs(n: usize, word: u64, border: &[u8], number: usize) {
     let area = parts::area(n);
+    let values = tables::values(number);
+    let table = parts::first(&values, tables::count(number));
     line(n, word, border, table, 0, 0, area);
     line(n, word, border, table, -1, 1, area);
     line(n, word, border, table, 1, -1, area);
@@ -54,32 +56,25 @@ fn pairs(n: usize, word: u64, border: &[u8], table: &[u8]) {
     line(n, word, border, table, 0, -256, area);
 }
 
-// The three tables; `depths` is the last, 0 to 255.
-fn each_table(n: usize, word: u64, border: &[u8], depths: &[u8]) {
-    pairs(n, word, border, &[77]);
-    pairs(n, word, border, &[100, 128, 140]);
-    pairs(n, word, border, depths);
-}
-
-// The lines of the words 0, step, 2 * step and so on.
-fn lines(n: usize, list: &[u64], step: usize, border: &[u8], depths: &[u8])
+// The lines of the words 0, step, 2 * step and so on, with the three tables.
+fn lines(n: usize, list: &[u64], step: usize, border: &[u8])
     requires { ⌜ 1 ≤ step ⌝ }
 {
     for k in 0..list.len() {
         if k % step == 0 {
-            each_table(n, list[k], border, depths);
+            pairs(n, list[k], border, 1);
+            pairs(n, list[k], border, 2);
+            pairs(n, list[k], border, 3);
         }
     }
 }
 
 // The words chosen for their corners, and every sixtieth of the list.
 fn each_word(n: usize, border: &[u8]) {
-    let counting = tables::values(7);
-    let depths = parts::first(&counting, 256);
     let mut list = [0u64; 756];
     let count = lists::build(n, &mut list);
-    lines(n, &words::corners(n), 1, border, depths);
-    lines(n, parts::words(&list, count), 60, border, depths);
+    lines(n, &words::corners(n), 1, border);
+    lines(n, parts::words(&list, count), 60, border);
 }
 
 // Each line takes one fault away from the line before it; `fives` is the table [5, 5].
@@ -108,7 +103,8 @@ fn size(n: usize, refused: bool)
     let bytes = samples(Source::Bytes, n, (900 + n) as u64);
     let border = parts::first(&bytes, 4 * n);
     if refused {
-        refusals(n, border, &[5, 5]);
+        let fives = tables::values(6);
+        refusals(n, border, parts::first(&fives, 2));
     } else {
         each_word(n, border);
     }

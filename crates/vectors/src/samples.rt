@@ -2,13 +2,11 @@
 ghost use Prim.Native.Nat.{_≤_};
 use crate::random::Random;
 
-// Where samples come from: pseudo-random bytes, a texture of section `contours`, the rising border of section `sides`, or a fill of
-// section `choices`.
+// Where samples come from: pseudo-random bytes, a texture of section `contours`, or the rising border of section `sides`.
 pub(crate) enum Source {
     Bytes,
     Texture(usize),
     Rising(u8),
-    Fill(usize),
 }
 
 // One of two samples.
@@ -70,44 +68,6 @@ fn rising_sample(n: usize, i: usize, end: u8) -> u8
     ((10 + 10 * i) % 256) as u8
 }
 
-// Whether fill 5, 6, 7, 8, 9, 13 or 14 has the first of its two values at sample i, column x and row y of N.
-fn is_first_fill(fill: usize, n: usize, i: usize) -> bool
-    requires { ⌜ (1 ≤ n) × (n ≤ 8) ⌝ }
-{
-    let x = i % n % 8;
-    let y = i / n % 64;
-    match fill {
-        5 => x < n / 2,
-        6 => y < n / 2,
-        7 => x + y < n,
-        8 => (x + y) % 2 == 0,
-        9 => i == 0,
-        13 => i < 2 * n,
-        _ => y % 2 == 0,
-    }
-}
-
-// Sample i of a fill of section `choices`; `byte` is its pseudo-random byte.
-fn fill_sample(fill: usize, n: usize, i: usize, byte: u8) -> u8
-    requires { ⌜ (1 ≤ n) × (n ≤ 8) × (i ≤ 63) ⌝ }
-{
-    let first = is_first_fill(fill, n, i);
-    match fill {
-        0 => 128,
-        1 => 0,
-        2 => 255,
-        3 => byte,
-        4 => byte % 4 + 126,
-        7 => either(first, 40, 200),
-        8 => either(first, 100, 156),
-        9 => either(first, 200, 100),
-        10 => 133,
-        11 => 123,
-        12 => (3 * i % 256) as u8,
-        _ => either(first, 100, 180),
-    }
-}
-
 fn sample(source: Source, n: usize, i: usize, byte: u8) -> u8
     requires { ⌜ (1 ≤ n) × (n ≤ 8) × (i ≤ 63) ⌝ }
 {
@@ -115,7 +75,6 @@ fn sample(source: Source, n: usize, i: usize, byte: u8) -> u8
         Source::Bytes => byte,
         Source::Texture(case) => texture_sample(case, n, i, byte),
         Source::Rising(end) => rising_sample(n, i, end),
-        Source::Fill(fill) => fill_sample(fill, n, i, byte),
     }
 }
 

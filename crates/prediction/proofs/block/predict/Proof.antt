@@ -1,6 +1,6 @@
 -- `predict` meets its contract: the answer and the block where a check fails, and where none does.
 use Prim.Native.Nat.{ℕ}
-use mathlib.Core.Path.{_≡_, sym, ap, _∙_}
+use mathlib.Core.Path.{_≡_, sym, _∙_}
 use mathlib.Core.Bool.{true, false}
 use native.Mathlib.Omega.{arith}
 use denote.Ref.{now}
@@ -8,11 +8,9 @@ use lib.ListN.{length}
 use mir.Syntax.{w32}
 use mir.ValLaws.{toZ-ofZ}
 use Rattle.arith.proofs.CheckLaws.{answer-refused, answer-given, lent-refused, lent-given}
-use Rattle.prediction.specs.Sides.{sideDepth}
-use Rattle.prediction.specs.Block.{levelOf}
 use Rattle.prediction.specs.Answer.{predictRefusal, predictAnswer, predictBlock}
 use Rattle.prediction.proofs.BlockLaws.{level-found, painted-is}
-use Rattle.prediction.proofs.CallLaws.{PredictAccepted, predict-accepted}
+use Rattle.prediction.proofs.CallLaws.{predict-accepted}
 use borrow.Author.Needs.{needs}
 use Rattle.prediction.proofs.block.predict.Statement.{statement}
 use Rattle.prediction.proofs.block.predict.Tie as tie

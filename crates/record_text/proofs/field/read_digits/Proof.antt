@@ -1,6 +1,6 @@
 -- `read_digits` meets its contract. The loop's invariant: the digits that are left, read from the place reached, give what the whole
 -- gives, and the value stays below the numeral's end. Assumes nothing.
-use Prim.Native.Nat.{ℕ, _+_, _*_, _^_, _≤_, _-_}
+use Prim.Native.Nat.{_+_, _*_, _^_, _≤_, _-_}
 use mathlib.Core.Path.{_≡_, sym, _∙_, ap, refl}
 use mathlib.Core.List.{_∷_}
 use native.Mathlib.Omega.{arith}

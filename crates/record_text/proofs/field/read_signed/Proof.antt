@@ -5,8 +5,8 @@ use native.Mathlib.Omega.{arith}
 use borrow.Author.Needs.{needs}
 use lib.ListN.{drop}
 use Rattle.record_text.specs.Field.{number}
-use Rattle.record_text.specs.Parsed.{badForm, found}
-use Rattle.record_text.specs.Told.{remaining, numberTold}
+use Rattle.record_text.specs.Parsed.{found}
+use Rattle.record_text.specs.Told.{numberTold}
 use Rattle.record_text.proofs.FieldLaws.{number-wrote}
 use Rattle.record_text.proofs.SignLaws.{word-back}
 use Rattle.record_text.proofs.ReadSteps.{past, signed-nil, signed-negative, signed-minus-zero, signed-minus-bad, signed-positive, signed-bad}

@@ -1,5 +1,5 @@
 -- `read_text` meets its contract. The loop's invariant: the rest of the text, read from the place reached, gives what the whole gives. Assumes nothing.
-use Prim.Native.Nat.{_+_, _-_, _≤_}
+use Prim.Native.Nat.{_-_, _≤_}
 use mathlib.Core.Path.{_≡_, sym, _∙_, refl}
 use native.Mathlib.Omega.{arith}
 use borrow.Author.Needs.{needs}

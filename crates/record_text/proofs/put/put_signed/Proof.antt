@@ -1,11 +1,10 @@
 -- `put_signed` meets its contract: the field is made apart, and then put. Assumes nothing.
 use Prim.Native.Nat.{_≤_}
-use mathlib.Core.Bool.{true, false}
+use mathlib.Core.Bool.{true}
 use mathlib.Core.Path.{_≡_, sym, _∙_, ap}
 use native.Mathlib.Omega.{arith}
 use borrow.Author.Needs.{needs}
 use borrow.Author.Tests.{not-true, not-false, ltb-true}
-use lib.IntN.{natAbs}
 use lib.ListN.{length, replicate}
 use mir.Syntax.{w32}
 use mir.Val.{toZ, ofZ}

@@ -1,6 +1,5 @@
 -- `signed_printable` meets its contract: two comparisons say how far from 0 the number is. Assumes nothing.
-use mathlib.Core.Path.{_≡_, sym, _∙_, ap}
-use mathlib.Core.Bool.{Bool}
+use mathlib.Core.Path.{sym, _∙_, ap}
 use lib.IntN.{ℤ, pos, negsuc}
 use lib.Signed.{ltZ}
 use Rattle.record_text.proofs.SignLaws.{word-back, within-low, within-high}

@@ -1,6 +1,6 @@
 -- `write_size` meets its contract: one field after the other, each with room for itself and for what follows. Assumes nothing.
 use Prim.Native.Nat.{_+_, _≤_}
-use mathlib.Core.List.{List, _++_}
+use mathlib.Core.List.{_++_}
 use native.Mathlib.Omega.{arith}
 use borrow.Author.Needs.{needs}
 use lib.ListN.{length}

@@ -1,6 +1,5 @@
 -- `positive` meets its contract: a number below 2 ^ 31 keeps its value. Assumes nothing.
 use borrow.Author.Needs.{needs}
-use native.Mathlib.Omega.{arith}
 use Rattle.record_text.proofs.SignLaws.{positive-is}
 use Rattle.record_text.proofs.sign.positive.Statement.{statement}
 use Rattle.record_text.proofs.sign.positive.Tie as tie

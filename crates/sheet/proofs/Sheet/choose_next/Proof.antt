@@ -4,7 +4,7 @@ use Prim.Native.Nat.{_*_, _≤_}
 use mathlib.Core.Path.{_≡_, sym}
 use mathlib.Core.Bool.{Bool, true, false, cond}
 use native.Mathlib.Omega.{arith}
-use lib.ListN.{length, take}
+use lib.ListN.{length}
 use lib.Seq.{length-take-le}
 use Rattle.pattern.proofs.SizeLaws.{square-64}
 use Rattle.sheet.specs.Place.{textured}

@@ -2,9 +2,7 @@
 use borrow.Author.Needs.{needs}
 use mathlib.Core.Path.{_≡_, sym, _∙_}
 use mathlib.Core.Bool.{true}
-use native.Mathlib.Omega.{arith}
 use borrow.Author.Tests.{eq-eqb, ne-eqb, not-true, not-false}
-use lib.Dec.{leb}
 use Rattle.sheet.specs.State.{lengthsOk}
 use Rattle.sheet.specs.Compose.{composeLengthsOk}
 use Rattle.sheet.proofs.StateLaws.{lengths-are}

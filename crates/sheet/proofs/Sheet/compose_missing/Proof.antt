@@ -11,7 +11,8 @@ use Rattle.sheet.specs.State.{finished}
 use Rattle.sheet.specs.Place.{materialOf}
 use Rattle.sheet.specs.Compose.{missing, Task, taskOf, composeCase, choiceRefusal}
 use Rattle.sheet.proofs.PlaceLaws.{length-placed}
-use Rattle.sheet.proofs.TurnLaws.{Going, going-none, going-more, Turn, turn, turn-refused, turn-none, turn-chosen, turn-placed, left-refused, left-all, told-all}
+use Rattle.sheet.proofs.TurnLaws.{Going, going-none, going-more}
+use Rattle.sheet.proofs.TurnEnds.{Turn, turn, turn-refused, turn-none, turn-chosen, turn-placed, left-refused, left-all, told-all}
 use Rattle.sheet.proofs.Sheet.compose_missing.Statement.{statement}
 use Rattle.sheet.proofs.Sheet.compose_missing.Tie as tie
 

@@ -1,6 +1,5 @@
 -- `cut_next` meets its contract: the next block lies inside the sheet.
 use borrow.Author.Needs.{needs}
-use mathlib.Core.Path.{_∙_}
 use Rattle.sheet.proofs.StateLaws.{next-inside}
 use Rattle.sheet.proofs.Sheet.cut_next.Statement.{statement}
 use Rattle.sheet.proofs.Sheet.cut_next.Tie as tie

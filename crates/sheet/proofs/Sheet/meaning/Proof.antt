@@ -1,8 +1,6 @@
 -- `meaning` meets its contract, kind by kind.
 use borrow.Author.Needs.{needs}
-use mathlib.Core.Path.{_∙_}
 use Rattle.sheet.proofs.MeaningLaws.{kind-other}
-use Rattle.arith.specs.Checks.{answer}
 use Rattle.sheet.proofs.Sheet.meaning.Statement.{statement}
 use Rattle.sheet.proofs.Sheet.meaning.Tie as tie
 

@@ -1,7 +1,7 @@
 -- `Sheet::new` meets its contract: 1, then 8, then the empty state.
 use borrow.Author.Needs.{needs}
 use mathlib.Core.Path.{_≡_, sym, _∙_}
-use mathlib.Core.Bool.{true, false}
+use mathlib.Core.Bool.{true}
 use native.Mathlib.Omega.{arith}
 use borrow.Author.Tests.{not-true, not-false}
 use Rattle.pattern.specs.Size.{sizeOk}

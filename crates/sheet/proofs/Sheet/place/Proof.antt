@@ -1,6 +1,6 @@
 -- `place` meets its contract, exit by exit.
 use borrow.Author.Needs.{needs}
-use mathlib.Core.Bool.{Bool, true, false, _&&_}
+use mathlib.Core.Bool.{Bool, _&&_}
 use mathlib.Core.Path.{_≡_, sym, ap, _∙_}
 use mir.Syntax.{w32}
 use mir.ValLaws.{toZ-ofZ}
@@ -11,7 +11,7 @@ use Rattle.prediction.specs.Offset.{offsetOk}
 use Rattle.choice.specs.Record.{Record}
 use Rattle.sheet.specs.State.{lengthsOk, openRefusal, Lengths}
 use Rattle.sheet.specs.Meaning.{recordOf, kindRefusal}
-use Rattle.sheet.specs.Place.{Material, materialOf, textured, nextWord, Predictable}
+use Rattle.sheet.specs.Place.{Material, materialOf, textured, nextWord}
 use Rattle.sheet.specs.Told.{meaningTold}
 use Rattle.sheet.proofs.StateLaws.{lengths-are, Opened, opened}
 use Rattle.sheet.proofs.PlaceLaws.{state-refused, kind-refused, offset-refused, predictable, all-given}

@@ -7,7 +7,7 @@ use mir.ValLaws.{toZ-ofZ}
 use Rattle.arith.specs.Checks.{given}
 use Rattle.choice.specs.Answer.{recordTold}
 use Rattle.sheet.specs.State.{after}
-use Rattle.sheet.specs.Place.{materialOf, placedSamples, placeAnswer, placeAfter}
+use Rattle.sheet.specs.Place.{materialOf, placedSamples}
 use Rattle.sheet.specs.Told.{placeTold}
 use Rattle.sheet.proofs.RefusalLaws.{given-same, given-never}
 use Rattle.sheet.proofs.PlaceLaws.{place-accepted}

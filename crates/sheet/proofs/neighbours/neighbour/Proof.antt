@@ -1,5 +1,4 @@
 -- `neighbour` meets its contract: the left run, then the top run.
-use Prim.Native.Nat.{_*_}
 use borrow.Author.Needs.{needs}
 use borrow.Author.Tests.{lt-ltb, le-ltb}
 use Rattle.sheet.proofs.neighbours.neighbour.Statement.{statement}

@@ -1,9 +1,8 @@
 -- `cut_at` meets its contract: after k samples the first k places are filled.
-use Prim.Native.Nat.{ℕ, _+_, _-_, _*_, _/_, _%_, _≤_, _<_}
+use Prim.Native.Nat.{_+_, _-_, _*_, _/_, _%_, _≤_, _<_}
 use mathlib.Core.Path.{_≡_, refl, sym}
 use native.Mathlib.Omega.{arith}
-use borrow.Author.Needs.{needs}
-use lib.ListN.{length, getD}
+use lib.ListN.{getD}
 use Rattle.arith.specs.Lists.{upto}
 use Rattle.arith.specs.Square.{place}
 use Rattle.arith.proofs.ListLaws.{upto-none, fill-by}

@@ -1,9 +1,7 @@
 -- `write_at` meets its contract: after k samples the sheet is that of `afterSamples`.
 use Prim.Native.Nat.{ℕ, _+_, _-_, _*_, _/_, _%_, _≤_, _<_}
-use mathlib.Core.Path.{_≡_, refl, _∙_}
-use native.Mathlib.Nat.{mul-le-mul}
+use mathlib.Core.Path.{_≡_, refl}
 use native.Mathlib.Omega.{arith}
-use borrow.Author.Needs.{needs}
 use lib.ListN.{length, getD, length-set}
 use Rattle.arith.specs.Square.{place}
 use Rattle.arith.proofs.SquareLaws.{column-lt, row-lt}

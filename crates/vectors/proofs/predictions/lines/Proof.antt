@@ -5,10 +5,10 @@ use Rattle.vectors.proofs.predictions.lines.Statement.{statement}
 use Rattle.vectors.proofs.predictions.lines.Tie as tie
 
 abbrev Inv-loop : tie.InvT-loop
-Inv-loop n list step border depths k₀ k-end k = k ≤ k-end
+Inv-loop n list step border k₀ k-end k = k ≤ k-end
 
 abbrev μ-loop : tie.MeasureT-loop
-μ-loop n list step border depths k₀ k-end k = k-end - k
+μ-loop n list step border k₀ k-end k = k-end - k
 
 loop-holds : tie.Need-loop-holds Inv-loop μ-loop
 loop-holds c = search needs
@@ -16,14 +16,32 @@ loop-holds c = search needs
 rem-if1 : tie.Need-rem-if1 Inv-loop μ-loop
 rem-if1 c = search needs
 
-mul-each-table : tie.Need-mul-each-table Inv-loop μ-loop
-mul-each-table c = search needs
+mul-pairs : tie.Need-mul-pairs Inv-loop μ-loop
+mul-pairs c = search needs
 
-shared-slice-read-each-table : tie.Need-shared-slice-read-each-table Inv-loop μ-loop
-shared-slice-read-each-table c = search needs
+shared-slice-read-pairs : tie.Need-shared-slice-read-pairs Inv-loop μ-loop
+shared-slice-read-pairs c = search needs
 
-each-table-requires : tie.Need-each-table-requires Inv-loop μ-loop
-each-table-requires c κs = search needs
+pairs-requires : tie.Need-pairs-requires Inv-loop μ-loop
+pairs-requires c κs = search needs
+
+mul-pairs-2 : tie.Need-mul-pairs-2 Inv-loop μ-loop
+mul-pairs-2 c = search needs
+
+shared-slice-read-pairs-2 : tie.Need-shared-slice-read-pairs-2 Inv-loop μ-loop
+shared-slice-read-pairs-2 c = search needs
+
+pairs-requires-2 : tie.Need-pairs-requires-2 Inv-loop μ-loop
+pairs-requires-2 c κs = search needs
+
+mul-pairs-3 : tie.Need-mul-pairs-3 Inv-loop μ-loop
+mul-pairs-3 c = search needs
+
+shared-slice-read-pairs-3 : tie.Need-shared-slice-read-pairs-3 Inv-loop μ-loop
+shared-slice-read-pairs-3 c = search needs
+
+pairs-requires-3 : tie.Need-pairs-requires-3 Inv-loop μ-loop
+pairs-requires-3 c κs = search needs
 
 add-k : tie.Need-add-k Inv-loop μ-loop
 add-k c = search needs
@@ -45,9 +63,15 @@ lines-spec =
     μ-loop
     loop-holds
     rem-if1
-    mul-each-table
-    shared-slice-read-each-table
-    each-table-requires
+    mul-pairs
+    shared-slice-read-pairs
+    pairs-requires
+    mul-pairs-2
+    shared-slice-read-pairs-2
+    pairs-requires-2
+    mul-pairs-3
+    shared-slice-read-pairs-3
+    pairs-requires-3
     add-k
     loop-less
     loop-again

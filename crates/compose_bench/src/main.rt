@@ -1,0 +1,106 @@
+// Composes one sheet, to be timed from outside: 128 by 128 samples where standard input begins with the byte 8, else 64 by 64.
+// It prints the side and the number of records written.
+use libc::STDIN_FILENO;
+use libc::STDOUT_FILENO;
+use pattern::Listed;
+use sheet::Composed;
+use sheet::Made;
+use sheet::Sheet;
+
+// The side that standard input asks for.
+fn side() -> u32 {
+    let mut asked = [0u8; 1];
+    io::read_full(STDIN_FILENO, &mut asked);
+    if asked[0] == b'8' { 128 } else { 64 }
+}
+
+// The first k samples, or all of them where there are fewer.
+fn first(s: &[u8], k: usize) -> &[u8] {
+    if k < s.len() {
+        return &s[0..k];
+    }
+    s
+}
+
+// The same of a slice that is written to.
+fn first_mut(s: &mut [u8], k: usize) -> &mut [u8] {
+    if k < s.len() {
+        return &mut s[0..k];
+    }
+    s
+}
+
+// The values 0 to 255.
+fn table() -> [u8; 256] {
+    let mut out = [0u8; 256];
+    for i in 0..256 {
+        out[i] = (i % 256) as u8;
+    }
+    out
+}
+
+// Original samples that fall into no pattern.
+fn original() -> [u8; 16384] {
+    let mut out = [0u8; 16384];
+    let mut state: u64 = 1;
+    for i in 0..16384 {
+        state = (state % 2147483648 * 1103515245 + 12345) % 2147483648;
+        out[i] = (state / 65536 % 256) as u8;
+    }
+    out
+}
+
+// Composes the sheet with a list and its count; the number of records written.
+fn compose(sheet: Sheet, list: &[u64], count: usize, area: usize) -> usize {
+    let mut samples = [0u8; 16384];
+    let picture = original();
+    let values = table();
+    let mut kinds = [0u32; 256];
+    let mut entries = [0u32; 256];
+    let mut offs0 = [0i32; 256];
+    let mut offs1 = [0i32; 256];
+    let composed = sheet.compose(
+        first_mut(&mut samples, area),
+        first(&picture, area),
+        list,
+        count,
+        &values,
+        5,
+        b"",
+        &mut kinds,
+        &mut entries,
+        &mut offs0,
+        &mut offs1,
+    );
+    match composed {
+        Composed::Finished(_, written) => written,
+        Composed::Refused(_) => 0,
+    }
+}
+
+// The same with the wedgelet list for blocks of 8.
+fn with_list(sheet: Sheet, area: usize) -> usize {
+    let mut list = [0u64; 756];
+    let listed = pattern::wedgelets(8, &mut list);
+    match listed {
+        Listed::Count(count) => compose(sheet, &list, count, area),
+        Listed::Refused(_) => 0,
+    }
+}
+
+// The number of records written to a new sheet of blocks of 8.
+fn written(side: u32, area: usize) -> usize {
+    match Sheet::new(8, side, side) {
+        Made::New(sheet) => with_list(sheet, area),
+        Made::Refused(_) => 0,
+    }
+}
+
+fn main() {
+    let side = side();
+    let area = if side == 128 { 16384 } else { 4096 };
+    io::print_decimal(STDOUT_FILENO, side as u64);
+    io::write_all(STDOUT_FILENO, b" ");
+    io::print_decimal(STDOUT_FILENO, written(side, area) as u64);
+    io::write_all(STDOUT_FILENO, b"\n");
+}

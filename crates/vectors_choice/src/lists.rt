@@ -1,0 +1,23 @@
+// The wedgelet list, and the word of all marks.
+ghost use Prim.Native.Nat.{_≤_};
+use pattern::Listed;
+
+// Builds the list, and answers its count; 0 where it is refused.
+pub(crate) fn build(n: usize, list: &mut [u64]) -> usize {
+    let listed = pattern::wedgelets(n, list);
+    match listed {
+        Listed::Count(count) => count,
+        Listed::Refused(_) => 0,
+    }
+}
+
+// All N * N bits.
+pub(crate) fn all_bits(n: usize) -> u64
+    ensures { λ r. ⌜ 1 ≤ r ⌝ }
+{
+    if n == 4 {
+        0xFFFF
+    } else {
+        0xFFFF_FFFF_FFFF_FFFF
+    }
+}
