@@ -197,9 +197,9 @@ fn line(c: Case, number: usize)
     let border = s.border;
     output::head(b"diagonal", c.n, number);
     flag(ends_decide(border, c.n));
-    output::number(a.cost as usize);
-    output::number(b.cost as usize);
     flag(are_partners(c.n, a, s, b, t));
+    choices::record(a);
+    choices::record(b);
     output::end();
 }
 

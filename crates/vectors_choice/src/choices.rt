@@ -209,7 +209,7 @@ fn with_texture(c: Case, border: &[u8], original: &[u8]) -> Choice
     chosen(c, border, original, parts::first(&bytes, length))
 }
 
-fn record(best: Best) {
+pub(crate) fn record(best: Best) {
     output::number(best.kind as usize);
     output::number(best.entry as usize);
     output::offset(best.off0);

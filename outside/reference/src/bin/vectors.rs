@@ -484,8 +484,8 @@ fn diagonal() {
     }
 }
 
-/// `diagonal N CASE HOLDS COST COST' PARTNERS`: HOLDS is 1 where document 01's condition holds, PARTNERS where the
-/// two chosen records are partners.
+/// `diagonal N CASE HOLDS PARTNERS`, then kind, entry, offsets and cost of the two chosen records: HOLDS is 1 where
+/// document 01's condition holds, PARTNERS where the two are partners.
 fn diagonal_line(case: usize, request: &Request) {
     let n = request.n;
     let (left, top) = request.border.split_at(2 * n);
@@ -498,5 +498,10 @@ fn diagonal_line(case: usize, request: &Request) {
         && here.record.off1 == across.record.off1
         && pattern_of(&other, &across) == transposed_word(n, pattern_of(request, &here));
     let holds = ends_decide(n, request.border);
-    println!("diagonal {n} {case} {} {} {} {}", holds as u32, here.cost, across.cost, partners as u32);
+    print!("diagonal {n} {case} {} {}", holds as u32, partners as u32);
+    for choice in [here, across] {
+        let record = choice.record;
+        print!(" {} {} {} {} {}", record.kind, record.entry, record.off0, record.off1, choice.cost);
+    }
+    println!();
 }
