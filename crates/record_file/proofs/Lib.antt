@@ -2,10 +2,4 @@
 pub mod MeaningLaws
 pub mod FileLaws
 pub mod RefusalLaws
-pub mod SpaceLaws
-pub mod WriteLaws
-pub mod ReadLaws
-pub mod PartLaws
-pub mod RestLaws
-pub mod BackLaws
 pub mod RoundTrip

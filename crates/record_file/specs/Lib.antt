@@ -1,8 +1,5 @@
--- Document 01, "House file".
+-- Document 01, "House file": the file's text, and what reading and writing it say.
 pub mod Text
 pub mod Reading
 pub mod Writing
-pub mod Told
-pub mod Stored
-pub mod Back
 pub mod Examples

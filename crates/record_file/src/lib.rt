@@ -1,13 +1,7 @@
-// The record file (document 01, "House file").
-mod checks;
-mod front;
-mod lines;
-mod loops;
-mod reading;
-mod records;
-mod writing;
+// The record file (document 01, "House file"): what it says, both round trips, and what writing and reading share.
+mod lent;
+mod meaning;
 
-pub use reading::FileBack;
-pub use reading::read;
-pub use writing::Wrote;
-pub use writing::write;
+pub use lent::record_at;
+pub use meaning::new_refusal;
+pub use meaning::record_refusal;

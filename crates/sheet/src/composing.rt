@@ -43,7 +43,7 @@ fn store(
 }
 
 // As many records are lent as the shortest of the four slices has.
-fn records_lent(kinds: usize, entries: usize, offs0: usize, offs1: usize) -> usize
+pub fn records_lent(kinds: usize, entries: usize, offs0: usize, offs1: usize) -> usize
     ensures { λ r. ⌜ r ≡ recordsLent kinds entries offs0 offs1 ⌝ }
 {
     lesser(kinds, lesser(entries, lesser(offs0, offs1)))

@@ -43,7 +43,7 @@ fn texture_ok(texture: usize, area: usize) -> bool
 }
 
 // Whether the list has so many words, and the count is at most 9,999.
-fn count_ok(words: usize, count: usize) -> bool
+pub fn count_ok(words: usize, count: usize) -> bool
     ensures { λ r. ⌜ r ≡ leb count words && leb count 9999 ⌝ }
 {
     count <= words && count <= 9999
@@ -76,7 +76,7 @@ impl Sheet {
     }
 
     // The number of its blocks, 0 where n is 0.
-    pub(crate) fn blocks(self) -> u64
+    pub fn blocks(self) -> u64
         ensures { λ r. ⌜ r ≡ blocksOf self ⌝ }
     {
         let n = self.n as u64;

@@ -1,0 +1,151 @@
+// Writing a record file.
+ghost use mathlib.Core.Path.{_≡_};
+ghost use Prim.Native.Nat.{ℕ, _+_, _*_, _<_, _≤_};
+ghost use lib.ListN.{length};
+ghost use Rattle.sheet.specs.Compose.{recordsLent};
+ghost use Rattle.record_text.specs.Line.{valueText, recordText};
+ghost use Rattle.record_text.specs.Lines.{texts};
+ghost use Rattle.record_text.specs.Put.{Written};
+ghost use Rattle.record_file.specs.Text.{headText, fileText, recordAt, recordsAt};
+ghost use Rattle.record_file.specs.Writing.{spaceFor, Small, HeadFits, sourceOf, writeAnswer, writeAfter};
+ghost use Rattle.record_write.specs.Told.{wroteTold};
+use crate::checks::finished_refusal;
+use crate::checks::records_refusal;
+use crate::checks::write_lengths_ok;
+use record_file::record_at;
+use record_text::Cursor;
+use record_text::SizeFields;
+use record_text::put_depth_title;
+use record_text::put_record_line;
+use record_text::put_record_title;
+use record_text::put_size_line;
+use record_text::put_size_title;
+use record_text::put_value_line;
+use sheet::Sheet;
+use sheet::records_lent;
+
+// What `write` answers: the length of the text, or the number of its refusal.
+pub enum Wrote {
+    Length(usize),
+    Refused(u8),
+}
+
+// A byte as a longer number.
+pub(crate) fn wide(b: u8) -> u32
+    ensures { λ r. ⌜ r ≡ b ⌝ }
+{
+    b as u32
+}
+
+// The lines of the table values; the place after them.
+fn put_values(out: &mut [u8], from: Cursor, table: &[u8]) -> Cursor
+    requires { ⌜ from .at + 4 * length (now table) ≤ length (now out) ⌝ }
+    ensures { λ r. ⌜ Written (now (out .entry)) (now (out .exit)) (from .at) (texts valueText (now (table .entry))) (r .at) ⌝ }
+{
+    let mut next = from;
+    for i in 0..table.len() {
+        let v = wide(table[i]);
+        next = put_value_line(out, next, v);
+    }
+    next
+}
+
+// The lines of the first m records; the place after them.
+fn put_records(
+    out: &mut [u8],
+    from: Cursor,
+    m: usize,
+    kinds: &[u32],
+    entries: &[u32],
+    offs0: &[i32],
+    offs1: &[i32],
+) -> Cursor
+    requires { ⌜ from .at + 32 * m ≤ length (now out) ⌝ }
+    requires { ⌜ m ≤ recordsLent (length (now kinds)) (length (now entries)) (length (now offs0)) (length (now offs1)) ⌝ }
+    requires { ⌜ ((i : ℕ) → i < m → Small (recordAt (now kinds) (now entries) (now offs0) (now offs1) i)) ⌝ }
+    ensures { λ r. ⌜ Written (now (out .entry)) (now (out .exit)) (from .at) (texts recordText (recordsAt (now (kinds .entry)) (now (entries .entry)) (now (offs0 .entry)) (now (offs1 .entry)) m)) (r .at) ⌝ }
+{
+    let mut next = from;
+    for i in 0..m {
+        let r = record_at(kinds, entries, offs0, offs1, i);
+        next = put_record_line(out, next, r);
+    }
+    next
+}
+
+// The first three lines; the place after them.
+fn put_head(out: &mut [u8], sheet: Sheet, values: u32) -> Cursor
+    requires { ⌜ (HeadFits sheet values) × (80 ≤ length (now out)) ⌝ }
+    ensures { λ r. ⌜ Written (now (out .entry)) (now (out .exit)) 0 (headText (sheet .n) (sheet .width) (sheet .height) values) (r .at) ⌝ }
+{
+    let title = put_size_title(out, Cursor { at: 0 });
+    let size = SizeFields {
+        n: sheet.n,
+        width: sheet.width,
+        height: sheet.height,
+        values,
+    };
+    let line = put_size_line(out, title, size);
+    put_depth_title(out, line)
+}
+
+// The whole text; its length.
+fn put_file(
+    out: &mut [u8],
+    sheet: Sheet,
+    table: &[u8],
+    m: usize,
+    kinds: &[u32],
+    entries: &[u32],
+    offs0: &[i32],
+    offs1: &[i32],
+) -> usize
+    requires { ⌜ (HeadFits sheet (length (now table))) × (spaceFor (length (now table)) m ≤ length (now out)) ⌝ }
+    requires { ⌜ m ≤ recordsLent (length (now kinds)) (length (now entries)) (length (now offs0)) (length (now offs1)) ⌝ }
+    requires { ⌜ ((i : ℕ) → i < m → Small (recordAt (now kinds) (now entries) (now offs0) (now offs1) i)) ⌝ }
+    ensures { λ r. ⌜ Written (now (out .entry)) (now (out .exit)) 0 (fileText (sheet .n) (sheet .width) (sheet .height) (now (table .entry)) (recordsAt (now (kinds .entry)) (now (entries .entry)) (now (offs0 .entry)) (now (offs1 .entry)) m)) r ⌝ }
+{
+    let head = put_head(out, sheet, table.len() as u32);
+    let values = put_values(out, head, table);
+    let title = put_record_title(out, values);
+    let end = put_records(out, title, m, kinds, entries, offs0, offs1);
+    end.at
+}
+
+// Writes a finished sheet's file and answers its length, or refuses with 1, 2, 8, 23, 22, 3, 7, 6, 5 or 4 and writes nothing.
+pub fn write(
+    sheet: Sheet,
+    list: &[u64],
+    count: usize,
+    table: &[u8],
+    kinds: &[u32],
+    entries: &[u32],
+    offs0: &[i32],
+    offs1: &[i32],
+    out: &mut [u8],
+) -> Wrote
+    ensures answered { λ r. ⌜ wroteTold r ≡ writeAnswer (sourceOf sheet (now (table .entry)) (recordAt (now (kinds .entry)) (now (entries .entry)) (now (offs0 .entry)) (now (offs1 .entry)))) (now (list .entry)) count (recordsLent (length (now (kinds .entry))) (length (now (entries .entry))) (length (now (offs0 .entry))) (length (now (offs1 .entry)))) (length (now (out .entry))) ⌝ }
+    ensures left { λ r. ⌜ now (out .exit) ≡ writeAfter (sourceOf sheet (now (table .entry)) (recordAt (now (kinds .entry)) (now (entries .entry)) (now (offs0 .entry)) (now (offs1 .entry)))) (now (list .entry)) count (recordsLent (length (now (kinds .entry))) (length (now (entries .entry))) (length (now (offs0 .entry))) (length (now (offs1 .entry)))) (now (out .entry)) ⌝ }
+{
+    let records = records_lent(kinds.len(), entries.len(), offs0.len(), offs1.len());
+    let lengths = write_lengths_ok(sheet, list.len(), count, table.len(), records, out.len());
+    let first = finished_refusal(sheet, lengths, table);
+    if first != 0 {
+        return Wrote::Refused(first);
+    }
+    let m = sheet.blocks() as usize;
+    let bad = records_refusal(
+        sheet.n as usize,
+        list,
+        count,
+        m,
+        kinds,
+        entries,
+        offs0,
+        offs1,
+    );
+    if bad != 0 {
+        return Wrote::Refused(bad);
+    }
+    Wrote::Length(put_file(out, sheet, table, m, kinds, entries, offs0, offs1))
+}
