@@ -21,29 +21,11 @@ use Rattle.record_text.specs.Lines.{texts}
 use Rattle.record_text.specs.Put.{Put, Written, printedIf, numberPrintable, sizePrintable, recordPrintable}
 use Rattle.record_text.proofs.LengthLaws.{head-length, value-line-length, record-line-length}
 use Rattle.record_text.proofs.LinesLaws.{texts-length}
-use Rattle.record_text.proofs.LoopLaws.{writing-more}
-use Rattle.record_text.proofs.PutLaws.{put-written, size-printed, record-printed}
+use Rattle.record_text.proofs.PutLaws.{put-written, printed-written, size-printed, record-printed}
 use Rattle.record_text.proofs.WriteSteps.{written-length, written-then, written-as}
 use Rattle.record_file.specs.Writing.{Source, Small, HeadFits, spaceFor, writeRefusal, writtenText, writeAnswer, writeAfter}
 use Rattle.record_file.specs.Text.{sizeFieldsOf, headText, fileText}
 use Rattle.record_file.proofs.MeaningLaws.{small-printable}
-
--- a text that can be printed, put where there is room
-pub put-room :
-    {old new text : List ℕ} {from next : Cursor} (b : Bool) → b ≡ true → from .at + length text ≤ length old → Put old new from (printedIf b text) next
-    → Written old new (from .at) text (next .at)
-put-room {old} {new} {text} {from} {next} b e h p = put-written h (subst (λ (x : Bool). Put old new from (printedIf x text) next) e p)
-
-module _ {A : Type 0} (text : A → List ℕ) (f : ℕ → A) (k m : ℕ) (short : (j : ℕ) → j < m → length (text (f j)) ≤ k) where
-  -- one line more
-  pub line-more :
-      {l₀ l l′ : List ℕ} {at : ℕ} {from next : Cursor} (i : ℕ) (b : Bool) → b ≡ true → i < m → k * i + k ≤ k * m → at + k * m ≤ length l₀
-      → Written l₀ l at (texts text (listOf f i)) (from .at) → Put l l′ from (printedIf b (text (f i))) next
-      → Written l₀ l′ at (texts text (listOf f (i + 1))) (next .at)
-  line-more {l₀} {l} {l′} {at} {from} {next} i b e h room space w p =
-      let few = texts-length text f k i (λ j q. short j (omega arith)) in
-      writing-more text f i w
-      (put-room b e (omega (arith, w .place, few, short i h, written-length w)) p)
 
 -- ---- table values
 
@@ -71,7 +53,7 @@ module _ (S : Sheet) (values : ℕ) (fits : HeadFits S values) where
   abbrev header : SizeFields
   header = sizeFieldsOf (S .n) (S .width) (S .height) values
 
-  header-length : length sizeTitle + length (sizeText header) + length depthTitle + length recordTitle ≤ 80
+  pub header-length : length sizeTitle + length (sizeText header) + length depthTitle + length recordTitle ≤ 80
   header-length = head-length header (omega (arith, fits .n)) (omega (arith, fits .width)) (omega (arith, fits .height)) (omega (arith, fits .table))
 
   header-printed : sizePrintable header ≡ true
@@ -86,7 +68,7 @@ module _ (S : Sheet) (values : ℕ) (fits : HeadFits S values) where
   unfolding headText
   head-written c₀ c₁ c₂ c₃ z room p1 p2 p3 =
       let w1 = put-written {from = c₀} {next = c₁} (omega (arith, header-length)) p1 in
-      let w2 = put-room {from = c₁} {next = c₂} (sizePrintable header) header-printed (omega (arith, header-length, w1 .place, written-length w1)) p2 in
+      let w2 = printed-written {b = sizePrintable header} {from = c₁} {next = c₂} header-printed (omega (arith, header-length, w1 .place, written-length w1)) p2 in
       let w3 = put-written {from = c₂} {next = c₃} (omega (arith, header-length, w1 .place, w2 .place, written-length w1, written-length w2)) p3 in
       written-then w1 (written-then w2 w3)
 
@@ -96,7 +78,7 @@ module _ (S : Sheet) (values : ℕ) (fits : HeadFits S values) where
 
 -- ---- the whole text
 
-values-length : (t : List ℕ) → ((i : ℕ) → getD t i 0 < 256) → length (texts valueText t) ≤ 4 * length t
+pub values-length : (t : List ℕ) → ((i : ℕ) → getD t i 0 < 256) → length (texts valueText t) ≤ 4 * length t
 values-length t h =
     subst (λ (l : List ℕ). length (texts valueText l) ≤ 4 * length t) (listOf-own t 0 (length t) refl)
     (texts-length valueText (λ j. getD t j 0) 4 (length t) (values-short t h (length t)))

@@ -1,0 +1,4 @@
+-- The proofs of the round trips.
+pub mod LengthLaws
+pub mod RefusalLaws
+pub mod RoundTrips

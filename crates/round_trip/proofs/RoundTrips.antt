@@ -1,0 +1,193 @@
+-- Both round trips, on what the calls answer and leave. Assumes nothing.
+use Prim.Native.Nat.{ℕ, zero, suc, _+_, _*_, _/_, _%_, _≤_, _<_}
+use mathlib.Core.Path.{_≡_, refl, sym, _∙_, ap, subst}
+use mathlib.Core.Bool.{true}
+use mathlib.Core.List.{List, [], _++_}
+use native.Mathlib.Nat.{mul-le-mul, zero-mul, sub-zero, div-add-mod', mod-lt}
+use native.Mathlib.Omega.{arith}
+use lib.ListN.{length, getD, take, drop, replicate, length-replicate}
+use lib.Seq.{sets, sets-eq, take-at, length-take-le}
+use Rattle.arith.specs.Checks.{given}
+use Rattle.arith.proofs.Bools.{both-of}
+use Rattle.arith.proofs.CheckLaws.{answer-given, lent-given, given-means}
+use Rattle.arith.proofs.ListLaws.{listOf-at}
+use Rattle.depth_table.proofs.TableLaws.{table-bytes}
+use Rattle.pattern.specs.Size.{sizeOk}
+use Rattle.pattern.proofs.SizeLaws.{size-bounds}
+use Rattle.choice.specs.Record.{Record}
+use Rattle.sheet.specs.declared.Sheet.{Sheet}
+use Rattle.sheet.specs.Grid.{sideOk}
+use Rattle.sheet.specs.State.{stateOf, area, blocksOf, sidesOk, Open}
+use Rattle.sheet.specs.Place.{placedInTurn}
+use Rattle.sheet.proofs.StateLaws.{side-bounds}
+use Rattle.sheet.proofs.InTurnLaws.{whole-same}
+use Rattle.record_text.specs.declared.cursor.RecordFields.{RecordFields}
+use Rattle.record_text.specs.Lines.{read}
+use Rattle.record_file.specs.Text.{meant, noRecord, recordAt}
+use Rattle.record_file.specs.Reading.{File, Aids}
+use Rattle.record_file.specs.Writing.{Source, sourceOf, spaceFor, writeRefusal, writtenText, writeAnswer, writeAfter}
+use Rattle.record_file.proofs.FileLaws.{size-small}
+use Rattle.record_file.proofs.RefusalLaws.{accepted-parts, accepted-head, accepted-small}
+use Rattle.record_file.proofs.RoundTrip.{heldBy, sheetOf, written-then-read, read-then-text, read-then-written, read-parts}
+use Rattle.record_read.specs.Stored.{putRecords}
+use Rattle.record_read.specs.Back.{fileBack, emptySheet, materialIn, recordIn, samplesBack, recordsBack, leaving}
+use Rattle.record_read.proofs.RestLaws.{record-back, lent-same, in-turn-ext, blocks-few}
+use Rattle.round_trip.specs.Law.{Lent, lentRecords, reading, answered, recordsLeft, TextureFits, Enough, placedBy, ReadsBack, WrittenReadsBack, readSource, ReadWritesBack, RoundTrips}
+use Rattle.round_trip.proofs.LengthLaws.{area-lent, text-fits}
+use Rattle.round_trip.proofs.RefusalLaws.{read-numbered, was-read}
+
+-- ---- what is written
+
+module _ (W : Source) (list : List ℕ) (count records : ℕ) (old : List ℕ) (accepted : writeRefusal W list count records (length old) ≡ 0) where
+  text-room : length (writtenText W) ≤ length old
+  text-room =
+      let p = accepted-parts W list count records (length old) accepted in
+      omega (
+        arith,
+        p .lengths .room,
+        text-fits W (accepted-head W list count records (length old) p) (table-bytes (W .table) (p .sound)) (accepted-small W list count records (length old) p),
+      )
+
+  -- the lent bytes afterwards: the text, and past it the old content
+  text-left : writeAfter W list count records old ≡ writtenText W ++ drop (length (writtenText W)) old
+  unfolding writeAfter
+  text-left =
+      let e : 0 + length (writtenText W) ≡ length (writtenText W) = omega arith in
+      sym (lent-given (writeRefusal W list count records (length old)) (sets old 0 (writtenText W)) old accepted)
+      ∙ sets-eq (writtenText W) old 0 (omega (arith, text-room))
+      ∙ ap (λ (k : ℕ). writtenText W ++ drop k old) e
+
+  text-answered : writeAnswer W list count records (length old) ≡ given (length (writtenText W))
+  unfolding writeAnswer
+  text-answered = sym (answer-given (writeRefusal W list count records (length old)) (length (writtenText W)) accepted)
+
+-- ---- an empty sheet has a block to place
+
+some-of : (n w : ℕ) → 1 ≤ n → n ≤ w → 1 ≤ w / n
+some-of n w h l = go (w / n) refl
+  where
+    go : (q : ℕ) → w / n ≡ q → 1 ≤ q
+    go zero e = absurd (let d : 0 * n + w % n ≡ w = rw e at (div-add-mod' w n) in omega (arith, d, zero-mul n, mod-lt w h))
+    go (suc q) e = omega arith
+
+open-empty : (S : Sheet) → sizeOk (S .n) ≡ true → sidesOk S ≡ true → Open (stateOf (S .n) (S .width) (S .height) 0)
+open-empty S size sides =
+    let n = size-bounds (S .n) size in
+    let b = both-of (sideOk (S .n) (S .width)) (sideOk (S .n) (S .height)) sides in
+    let w = side-bounds (S .n) (S .width) (b .0) in
+    let h = side-bounds (S .n) (S .height) (b .1) in
+    record {
+      size = size;
+      sides = sides;
+      low = n .0;
+      high = n .1;
+      wide = w .0;
+      narrow = w .1;
+      short = h .1;
+      missing = mul-le-mul {n₁ = 1} {m₁ = 1} {n₂ = S .width / S .n} {m₂ = S .height / S .n}
+          (some-of (S .n) (S .width) (omega (arith, n .0)) (w .0)) (some-of (S .n) (S .height) (omega (arith, n .0)) (h .0));
+    }
+
+-- ---- what is written reads back
+
+module _
+    (W : Source) (A : Aids) (records k : ℕ) (old : List ℕ) (L : Lent) (answer : writeAnswer W (A .list) (A .count) records (length old) ≡ given k)
+    (fits : TextureFits W (A .texture)) (enough : Enough L)
+  where
+    abbrev file : List ℕ
+    file = take k (writeAfter W (A .list) (A .count) records old)
+
+    answer-parts : (writeRefusal W (A .list) (A .count) records (length old) ≡ 0) × (length (writtenText W) ≡ k)
+    unfolding writeAnswer
+    answer-parts = given-means (writeRefusal W (A .list) (A .count) records (length old)) (length (writtenText W)) k answer
+
+    file-is : file ≡ writtenText W
+    file-is =
+        ap (take k) (text-left W (A .list) (A .count) records old (answer-parts .0))
+        ∙ take-at (writtenText W) (drop (length (writtenText W)) old) k (answer-parts .1)
+
+    file-read : reading A L file ≡ read (heldBy W) []
+    file-read =
+        ap (reading A L) file-is
+        ∙ written-then-read W (A .list) (A .count) records (length old) (answer-parts .0) (A .texture) (fits .size) (fits .lent)
+        (length (L .samples)) (lentRecords (L .records)) (enough .samples) (enough .records)
+
+    -- the samples do not depend on what stood there before
+    samples-placed : samplesBack A (heldBy W) (L .samples) ≡ placedBy A W ++ drop (area (W .sheet)) (L .samples)
+    unfolding samplesBack
+    samples-placed =
+        let p = accepted-parts W (A .list) (A .count) records (length old) (answer-parts .0) in
+        let F = heldBy W in
+        let S = emptySheet F in
+        let f : ℕ → Record = λ i. meant (W .record-at i) in
+        let o = open-empty (W .sheet) (p .size) (p .sides) in
+        let first : List ℕ = take (area (W .sheet)) (L .samples) in
+        let zeros : List ℕ = replicate (area (W .sheet)) 0 in
+        let long : length first ≡ area (W .sheet) = length-take-le (area (W .sheet)) (L .samples) (omega (arith, enough .samples, area-lent (W .sheet .width) (W .sheet .height) (o .narrow) (o .short))) in
+        ap (λ (s : List ℕ). s ++ drop (area (W .sheet)) (L .samples))
+        (in-turn-ext S (materialIn A F) (recordIn F) f first (blocksOf S) (λ i h. ap meant (listOf-at (W .record-at) noRecord (blocksOf S) i h))
+        ∙ subst (λ (m : ℕ). placedInTurn S (materialIn A F) f first m ≡ placedInTurn S (materialIn A F) f zeros m) (sub-zero (blocksOf S))
+        (whole-same S (materialIn A F) f first zeros o long (length-replicate {A = ℕ} (area (W .sheet)) 0) (λ j l b. absurd (omega arith))))
+
+    pub reads-back : ReadsBack W A L file
+    reads-back =
+        let p = accepted-parts W (A .list) (A .count) records (length old) (answer-parts .0) in
+        record {
+          answer = ap fileBack file-read ∙ rw (p .done) refl;
+          records = rw file-read refl;
+          samples = rw file-read samples-placed;
+        }
+
+-- ---- what is accepted is what is written of it
+
+module _ (A : Aids) (L : Lent) (F : File) (s t old : List ℕ) (accepted : reading A L s ≡ read F t) where
+  abbrev left : ℕ → RecordFields
+  left = let x = putRecords (L .records) (F .records) in recordAt (x .0) (x .1 .0) (x .1 .1 .0) (x .1 .1 .1)
+
+  abbrev writes : List ℕ → Type 0
+  writes table =
+      let W = sourceOf (sheetOf F) table left in
+      let lent = lentRecords (putRecords (L .records) (F .records)) in
+      (writeAnswer W (A .list) (A .count) lent (length old) ≡ given (length s)) × (writeAfter W (A .list) (A .count) lent old ≡ s ++ drop (length s) old)
+
+  records-room : length (F .records) ≤ lentRecords (L .records)
+  records-room =
+      let p = read-parts A (length (L .samples)) (lentRecords (L .records)) F s t accepted in
+      omega (arith, p .0 .records-lent, p .1 .sound .whole, blocks-few (length (A .texture)) _ (p .1 .sound .size))
+
+  left-is : (i : ℕ) → i < length (F .records) → left i ≡ getD (F .records) i noRecord
+  left-is i h = record-back (F .records) (L .records) refl records-room i h
+
+  writes-it : spaceFor (length (F .table)) (length (F .records)) ≤ length old → writes (F .table)
+  writes-it space =
+      let W = sourceOf (sheetOf F) (F .table) left in
+      let lent = lentRecords (putRecords (L .records) (F .records)) in
+      let text = read-then-text A (length (L .samples)) (lentRecords (L .records)) F s t accepted left left-is in
+      let none = read-then-written A (length (L .samples)) (lentRecords (L .records)) F s t accepted left left-is lent (length old)
+      (omega (arith, records-room, lent-same (F .records) (L .records) refl)) space in (
+        text-answered W (A .list) (A .count) lent old none ∙ ap (λ (x : List ℕ). given (length x)) text,
+        text-left W (A .list) (A .count) lent old none ∙ ap (λ (x : List ℕ). x ++ drop (length x) old) text,
+      )
+
+  -- the table comes back from the array that holds its values before zeros
+  table-back : take (length (F .table)) (sets (replicate 256 0) 0 (F .table)) ≡ F .table
+  table-back =
+      let p = read-parts A (length (L .samples)) (lentRecords (L .records)) F s t accepted in
+      let few = size-small (length (A .texture)) _ (p .1 .sound .size) .values in
+      let zeros : List ℕ = replicate 256 0 in
+      let room : 0 + length (F .table) ≤ length zeros = omega (arith, length-replicate {A = ℕ} 256 0, few) in
+      ap (take (length (F .table))) (sets-eq (F .table) zeros 0 room) ∙ take-at (F .table) (drop (0 + length (F .table)) zeros) (length (F .table)) refl
+
+  pub writes-back : spaceFor (length (F .table)) (blocksOf (sheetOf F)) ≤ length old → writes (take (length (F .table)) (sets (replicate 256 0) 0 (F .table)))
+  writes-back space =
+      let p = read-parts A (length (L .samples)) (lentRecords (L .records)) F s t accepted in
+      subst writes (sym table-back) (writes-it (rw (← p .1 .sound .whole) at space))
+
+read-writes : ReadWritesBack
+read-writes A L s old none space =
+    let r = was-read (reading A L s) (read-numbered A (length (L .samples)) (lentRecords (L .records)) s) none in
+    rw (r .is) (writes-back A L (r .file) s (r .rest) old (r .is) (rw (r .is) at space))
+
+-- Both round trips hold.
+pub round-trips : RoundTrips
+round-trips = record { written-reads-back = reads-back; read-writes-back = read-writes }

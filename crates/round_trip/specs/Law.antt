@@ -1,0 +1,97 @@
+-- Document 01, "House file": what can be written reads back the same, and a file that is accepted is the one the writer makes of what was
+-- read. Both are said of what the calls `write` and `read` answer and leave, as their contracts have it. Assumes nothing.
+use Prim.Native.Nat.{ℕ, _≤_, _<_}
+use mathlib.Core.Path.{_≡_}
+use mathlib.Core.List.{List, _++_}
+use mathlib.Core.Logic.{_⊎_}
+use lib.ListN.{length, take, drop, replicate}
+use lib.Seq.{sets}
+use Rattle.arith.specs.Checks.{given}
+use Rattle.arith.specs.Lists.{listOf}
+use Rattle.sheet.specs.State.{stateOf, area, blocksOf}
+use Rattle.sheet.specs.Place.{materialOf, placedInTurn}
+use Rattle.sheet.specs.Compose.{recordsLent}
+use Rattle.record_file.specs.Text.{meant, recordAt}
+use Rattle.record_file.specs.Reading.{File, Aids, readFile}
+use Rattle.record_file.specs.Writing.{Source, sourceOf, spaceFor, writeAnswer, writeAfter}
+use Rattle.record_text.specs.Lines.{Lined}
+use Rattle.record_read.specs.declared.reading.FileBack.{FileBack}
+use Rattle.record_read.specs.Stored.{Slices, putRecords}
+use Rattle.record_read.specs.Back.{fileBack, recordsBack, samplesBack, leaving}
+
+-- what is lent to reading: samples, and records as a slice for each field
+pub record Lent : Type 0 where
+  pub samples : List ℕ
+  pub records : Slices
+
+abbrev pub lentRecords : Slices → ℕ
+lentRecords x = recordsLent (length (x .0)) (length (x .1 .0)) (length (x .1 .1 .0)) (length (x .1 .1 .1))
+
+-- what `read` makes of the bytes s, answers, and leaves
+abbrev pub reading : Aids → Lent → List ℕ → Lined File
+reading A L s = readFile A (length (L .samples)) (lentRecords (L .records)) s
+
+abbrev pub answered : Aids → Lent → List ℕ → FileBack
+answered A L s = fileBack (reading A L s)
+
+abbrev pub recordsLeft : Aids → Lent → List ℕ → Slices
+recordsLeft A L s = leaving (reading A L s) (λ F. recordsBack F (L .records)) (L .records)
+
+abbrev pub samplesLeft : Aids → Lent → List ℕ → List ℕ
+samplesLeft A L s = leaving (reading A L s) (λ F. samplesBack A F (L .samples)) (L .samples)
+
+-- ---- what is written reads back
+
+-- texture is none or of the sheet's size, and there is some where the file holds kind 1
+pub record TextureFits (W : Source) (texture : List ℕ) : Type 0 where
+  pub size : (length texture ≡ 0) ⊎ (length texture ≡ area (W .sheet))
+  pub lent : (i : ℕ) → i < blocksOf (W .sheet) → W .record-at i .kind ≡ 1 → 0 < length texture
+
+-- enough is lent to reading
+pub record Enough (L : Lent) : Type 0 where
+  pub samples : 16384 ≤ length (L .samples)
+  pub records : 1024 ≤ lentRecords (L .records)
+
+-- the samples that placing the written records in turn on an empty sheet gives, with the table and the texture
+abbrev pub placedBy : Aids → Source → List ℕ
+placedBy A W =
+    placedInTurn (stateOf (W .sheet .n) (W .sheet .width) (W .sheet .height) 0) (materialOf (A .list) (A .count) (W .table) (A .texture))
+    (λ i. meant (W .record-at i)) (replicate (area (W .sheet)) 0) (blocksOf (W .sheet))
+
+-- the bytes s read back as W: no refusal, the state and the table; the records, and the samples; past them what was there
+pub record ReadsBack (W : Source) (A : Aids) (L : Lent) (s : List ℕ) : Type 0 where
+  pub answer :
+      answered A L s
+      ≡ record { refusal = 0; line = 0; sheet = W .sheet; values = length (W .table); table = sets (replicate 256 0) 0 (W .table) }
+  pub records : recordsLeft A L s ≡ putRecords (L .records) (listOf (W .record-at) (blocksOf (W .sheet)))
+  pub samples : samplesLeft A L s ≡ placedBy A W ++ drop (area (W .sheet)) (L .samples)
+
+-- Where `write` answers the length k, the first k bytes that it leaves read back as what was written, with the same list and count.
+abbrev pub WrittenReadsBack : Type 0
+WrittenReadsBack =
+    (W : Source) (A : Aids) (records k : ℕ) (old : List ℕ) (L : Lent)
+    → writeAnswer W (A .list) (A .count) records (length old) ≡ given k → TextureFits W (A .texture) → Enough L
+    → ReadsBack W A L (take k (writeAfter W (A .list) (A .count) records old))
+
+-- ---- what is accepted is what is written of it
+
+-- what was read, as it is handed to writing: the state, the table's values, and the record at each place
+abbrev pub readSource : Aids → Lent → List ℕ → Source
+readSource A L s =
+    let back = answered A L s in
+    let left = recordsLeft A L s in
+    sourceOf (back .sheet) (take (back .values) (back .table)) (recordAt (left .0) (left .1 .0) (left .1 .1 .0) (left .1 .1 .1))
+
+-- Where `read` refuses nothing, `write` makes of what was read the same bytes: it answers their length, and past them nothing changes.
+abbrev pub ReadWritesBack : Type 0
+ReadWritesBack =
+    (A : Aids) (L : Lent) (s old : List ℕ)
+    → answered A L s .refusal ≡ 0
+    → spaceFor (answered A L s .values) (blocksOf (answered A L s .sheet)) ≤ length old
+    → (writeAnswer (readSource A L s) (A .list) (A .count) (lentRecords (recordsLeft A L s)) (length old) ≡ given (length s))
+    × (writeAfter (readSource A L s) (A .list) (A .count) (lentRecords (recordsLeft A L s)) old ≡ s ++ drop (length s) old)
+
+-- both, for every list, count, table, records and texture
+pub record RoundTrips : Type 0 where
+  pub written-reads-back : WrittenReadsBack
+  pub read-writes-back : ReadWritesBack

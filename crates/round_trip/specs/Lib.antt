@@ -1,0 +1,2 @@
+-- Document 01, "House file": the two round trips.
+pub mod Law
