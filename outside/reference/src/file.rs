@@ -221,20 +221,22 @@ fn list_of_file(bytes: &[u8]) -> Vec<u64> {
     }
 }
 
-/// What `show` prints for a file: "width and height, then the sample rows", or the refusal. It lends no
-/// texture.
+/// "Width and height, then the sample rows", as `show` prints them.
+pub fn shown(width: usize, height: usize, samples: &[u8]) -> String {
+    let mut text = format!("width height\n{width} {height}\ndepth\n");
+    for row in samples.chunks(width) {
+        let row: Vec<String> = row.iter().map(|sample| sample.to_string()).collect();
+        text += &format!("{}\n", row.join(" "));
+    }
+    text
+}
+
+/// What `show` prints for a file: its samples, or the refusal. It lends no texture.
 pub fn show(bytes: &[u8]) -> String {
     let list = list_of_file(bytes);
     match read_contents(bytes, &list, list.len(), &[]) {
         Err(Refused { number, line }) => format!("refusal line\n{number} {line}\n"),
-        Ok(Contents { sheet, samples, .. }) => {
-            let mut text = format!("width height\n{} {}\ndepth\n", sheet.width, sheet.height);
-            for row in samples.chunks(sheet.width as usize) {
-                let row: Vec<String> = row.iter().map(|sample| sample.to_string()).collect();
-                text += &format!("{}\n", row.join(" "));
-            }
-            text
-        }
+        Ok(Contents { sheet, samples, .. }) => shown(sheet.width as usize, sheet.height as usize, &samples),
     }
 }
 
