@@ -29,7 +29,7 @@ use Rattle.record_file.specs.declared.reading.FileBack.{FileBack}
 use Rattle.record_file.specs.Reading.{File, Aids, aidsOf, readFile}
 use Rattle.record_file.specs.Back.{emptySheet, materialIn, recordIn, samplesBack, fileBack, leaving}
 use Rattle.sheet_text.specs.Printed.{sheetText}
-use Rattle.sheet_text.specs.Showing.{sizeIn, aidsFor, Listing, samplesIn, textBy, readWith, shownText, showSpace, showAnswer, showAfter}
+use Rattle.sheet_text.specs.Showing.{sizeIn, aidsFor, Listing, samplesIn, textBy, readWith, shownText, showSpace, showRefusal, showAnswer, showAfter}
 use Rattle.sheet_text.proofs.PrintLaws.{sheet-same}
 use Rattle.sheet_text.proofs.RefusalLaws.{Below, lineEnd, read-below}
 use Rattle.sheet_text.proofs.SampleLaws.{file-fits, text-short}
@@ -171,6 +171,16 @@ module _ (s old : List ℕ) where
       let e : k ≡ length (shownText s) = omega (arith, w .place) in
       let q = written-whole (omega (arith, shown-short s)) w in
       rw (le-leb showSpace (length old) h) (ap given e, q ∙ ap (λ (j : ℕ). shownText s ++ drop j old) e)
+
+  -- for a caller: the answered length counts bytes of the lent space, and those are the text
+  pub shown-inside :
+      {new : List ℕ} {k : ℕ} → given k ≡ showAnswer s (length old) → new ≡ showAfter s old → (take k new ≡ shownText s) × ((k ≤ length new) × (k ≡ length (take k new)))
+  unfolding showAnswer showAfter
+  shown-inside {new} {k} a e =
+      let g = given-means (showRefusal (length old)) (length (shownText s)) k (sym a) in
+      let is : new ≡ shownText s ++ drop (length (shownText s)) old = e ∙ rw (g .0) in
+      let first : take k new ≡ shownText s = ap (take k) is ∙ take-at (shownText s) (drop (length (shownText s)) old) k (g .1) in
+      (first, (omega (arith, ap length is, length-append (shownText s) (drop (length (shownText s)) old), g .1), sym (ap length first ∙ g .1)))
 
 -- with the list for the file's own size
 pub shown-as : (s : List ℕ) {n : ℕ} {A : Aids} → n ≡ sizeIn s → A ≡ aidsFor n → textBy A (readWith A s) ≡ shownText s
