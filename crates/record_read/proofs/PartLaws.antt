@@ -74,14 +74,15 @@ head-sound texture s {z} {u} e =
 
 -- ---- the records and the end
 
-module _ {A X : Type 0} (put : List A → X) (k : ℕ) (s : List ℕ) (at : ℕ) (x : Lined (List A)) (old : X) where
+module _ {A : Type 0} (k : ℕ) (s : List ℕ) (at : ℕ) (x : Lined (List A)) where
   abbrev toEnd : Lined (List A)
   toEnd = linesThen x (λ l u. ended k l u)
 
-  pub last-refused : {n j : ℕ} → refusedAt n j ≡ only x → (refusedAt n j ≡ only toEnd) × (old ≡ putOr put toEnd old)
-  last-refused e = rw (only-refused x e) (refl, refl)
+  -- the lines judged: one of them is refused, something is left, or nothing is
+  pub last-refused : {n j : ℕ} → refusedAt n j ≡ only x → refusedAt n j ≡ only toEnd
+  last-refused e = rw (only-refused x e)
 
-  pub last-more : read tt (drop at s) ≡ only x → at < length s → (refusedAt 9 k ≡ only toEnd) × (old ≡ putOr put toEnd old)
+  pub last-more : read tt (drop at s) ≡ only x → at < length s → refusedAt 9 k ≡ only toEnd
   last-more e h = go x e
     where
       past : (l : List A) (u : List ℕ) → drop at s ≡ u → ended k l u ≡ refusedAt 9 k
@@ -91,18 +92,35 @@ module _ {A X : Type 0} (put : List A → X) (k : ℕ) (s : List ℕ) (at : ℕ)
           empty e = omega (arith, ap length e)
       past l (b ∷ u) q = refl
 
-      go : (x : Lined (List A)) → read tt (drop at s) ≡ only x → (refusedAt 9 k ≡ only (linesThen x (λ l u. ended k l u))) × (old ≡ putOr put (linesThen x (λ l u. ended k l u)) old)
+      go : (x : Lined (List A)) → read tt (drop at s) ≡ only x → refusedAt 9 k ≡ only (linesThen x (λ l u. ended k l u))
       go (refusedAt n j) e = refused-read (sym e)
-      go (read l u) e = let p : drop at s ≡ u = cc in rw (past l u p) (refl, refl)
+      go (read l u) e = let p : drop at s ≡ u = cc in rw (past l u p)
+
+  pub last-none : read tt (drop at s) ≡ only x → length s ≤ at → read tt (drop at s) ≡ only toEnd
+  last-none e h = go x e
+    where
+      go : (x : Lined (List A)) → read tt (drop at s) ≡ only x → read tt (drop at s) ≡ only (linesThen x (λ l u. ended k l u))
+      go (refusedAt n j) e = refused-read (sym e)
+      go (read l u) e = let p : u ≡ [] = (let r : drop at s ≡ u = cc in sym r ∙ drop-of-length-le s h) in e ∙ rw p
+
+module _ {A X : Type 0} (put : List A → X) (k : ℕ) (x : Lined (List A)) (old : X) where
+  abbrev judgedToEnd : Lined (List A)
+  judgedToEnd = linesThen x (λ l u. ended k l u)
+
+  -- the records stored, once the lines are judged
+  pub last-kept : {n j : ℕ} → refusedAt n j ≡ only judgedToEnd → old ≡ putOr put judgedToEnd old
+  last-kept e = rw (only-refused judgedToEnd e)
 
   pub last-read :
-      {y : Lined (Unit {0})} {new : X} → read tt (drop at s) ≡ only x → length s ≤ at → y ≡ only x → PutIf put x new → (y ≡ only toEnd) × (new ≡ putOr put toEnd old)
-  last-read {y} {new} e h q w = go x e q w
+      {y : Lined (Unit {0})} {new : X} {v : List ℕ} → read tt v ≡ only judgedToEnd → y ≡ only x → PutIf put x new
+      → (y ≡ only judgedToEnd) × (new ≡ putOr put judgedToEnd old)
+  last-read {y} {new} {v} e q w = go x e q w
     where
-      go : (x : Lined (List A)) → read tt (drop at s) ≡ only x → y ≡ only x → PutIf put x new
+      go : (x : Lined (List A)) → read tt v ≡ only (linesThen x (λ l u. ended k l u)) → y ≡ only x → PutIf put x new
           → (y ≡ only (linesThen x (λ l u. ended k l u))) × (new ≡ putOr put (linesThen x (λ l u. ended k l u)) old)
       go (refusedAt n j) e q w = refused-read (sym e)
-      go (read l u) e q w = let p : u ≡ [] = (let r : drop at s ≡ u = cc in sym r ∙ drop-of-length-le s h) in rw p (q ∙ rw p, w)
+      go (read l []) e q w = (q, w)
+      go (read l (b ∷ u)) e q w = refused-read (sym e)
 
 -- ---- records placed in turn
 

@@ -55,7 +55,51 @@ pub(crate) fn read_front(bytes: &[u8], texture: usize, table: &mut [u8]) -> Size
     }
 }
 
-// The m records from line k on, and nothing after them. They are read into arrays of its own first, so that a refusal alters nothing.
+// Judges the m records from line k on, and that nothing is after them. They are read into arrays of its own.
+fn judge_last(
+    bytes: &[u8],
+    from: Cursor,
+    n: usize,
+    list: &[u64],
+    count: usize,
+    textured: bool,
+    m: usize,
+    k: u32,
+) -> LinesRead
+    requires { ⌜ (count ≤ length (now list)) × (m ≤ 1024) × (k ≤ 1000) ⌝ }
+    ensures { λ r. ⌜ linesTold (now (bytes .entry)) r ≡ only (lastLinesBy n (now (list .entry)) count textured m k (remaining (now (bytes .entry)) from)) ⌝ }
+{
+    let mut kinds = [0u32; 1024];
+    let mut entries = [0u32; 1024];
+    let mut offs0 = [0i32; 1024];
+    let mut offs1 = [0i32; 1024];
+    let tried = read_records(
+        bytes,
+        from,
+        n,
+        list,
+        count,
+        textured,
+        m,
+        k,
+        &mut kinds,
+        &mut entries,
+        &mut offs0,
+        &mut offs1,
+    );
+    match tried {
+        LinesRead::Refused(number, line) => LinesRead::Refused(number, line),
+        LinesRead::Done(next) => {
+            if next.at < bytes.len() {
+                return LinesRead::Refused(9, k + m as u32);
+            }
+            LinesRead::Done(next)
+        }
+    }
+}
+
+// The m records from line k on, and nothing after them. All lines are judged before the first record is stored, so that a refusal
+// alters nothing.
 pub(crate) fn read_last(
     bytes: &[u8],
     from: Cursor,
@@ -74,44 +118,21 @@ pub(crate) fn read_last(
     ensures answered { λ r. ⌜ linesTold (now (bytes .entry)) r ≡ only (lastLinesBy n (now (list .entry)) count textured m k (remaining (now (bytes .entry)) from)) ⌝ }
     ensures kept { λ r. ⌜ _≡_ {A = Slices} (now (kinds .exit), (now (entries .exit), (now (offs0 .exit), now (offs1 .exit)))) (putOr (putRecords (now (kinds .entry), (now (entries .entry), (now (offs0 .entry), now (offs1 .entry))))) (lastLinesBy n (now (list .entry)) count textured m k (remaining (now (bytes .entry)) from)) (now (kinds .entry), (now (entries .entry), (now (offs0 .entry), now (offs1 .entry))))) ⌝ }
 {
-    let mut ks = [0u32; 1024];
-    let mut es = [0u32; 1024];
-    let mut xs = [0i32; 1024];
-    let mut ys = [0i32; 1024];
-    let tried = read_records(
-        bytes,
-        from,
-        n,
-        list,
-        count,
-        textured,
-        m,
-        k,
-        &mut ks,
-        &mut es,
-        &mut xs,
-        &mut ys,
-    );
-    match tried {
+    match judge_last(bytes, from, n, list, count, textured, m, k) {
         LinesRead::Refused(number, line) => LinesRead::Refused(number, line),
-        LinesRead::Done(next) => {
-            if next.at < bytes.len() {
-                return LinesRead::Refused(9, k + m as u32);
-            }
-            read_records(
-                bytes,
-                from,
-                n,
-                list,
-                count,
-                textured,
-                m,
-                k,
-                kinds,
-                entries,
-                offs0,
-                offs1,
-            )
-        }
+        LinesRead::Done(_) => read_records(
+            bytes,
+            from,
+            n,
+            list,
+            count,
+            textured,
+            m,
+            k,
+            kinds,
+            entries,
+            offs0,
+            offs1,
+        ),
     }
 }

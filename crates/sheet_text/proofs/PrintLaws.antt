@@ -1,0 +1,140 @@
+-- Printing a sheet and a refusal part by part, with room for each. Assumes nothing.
+use Prim.Native.Nat.{ℕ, suc, zero, _+_, _*_, _≤_, _<_}
+use mathlib.Core.Path.{_≡_, refl, sym, _∙_, ap, ap₂, subst}
+use mathlib.Core.Bool.{true}
+use mathlib.Core.List.{List, _++_}
+use native.Mathlib.Omega.{arith}
+use borrow.Author.Tests.{lt-ltb}
+use lib.ListN.{length, getD, length-append}
+use Rattle.arith.specs.Lists.{listOf}
+use Rattle.record_text.specs.declared.cursor.Cursor.{Cursor}
+use Rattle.record_text.specs.Numeral.{numeralEnd}
+use Rattle.record_text.specs.Field.{numberText}
+use Rattle.record_text.specs.Line.{depthTitle}
+use Rattle.record_text.specs.Lines.{texts}
+use Rattle.record_text.specs.Put.{Put, Written, printedIf, numberPrintable}
+use Rattle.record_text.proofs.LengthLaws.{number-short, number-le}
+use Rattle.record_text.proofs.LinesLaws.{texts-more, texts-length}
+use Rattle.record_text.proofs.PutLaws.{put-written}
+use Rattle.record_text.proofs.WriteSteps.{written-length, written-then, room-first, room-next}
+use Rattle.record_text.proofs.PutLaws.{printed-written}
+use Rattle.sheet_text.specs.Printed.{sidesTitle, refusalTitle, pairText, byteAfter, sampleText, rowsText, sidesText, sheetText, refusalText}
+
+-- ---- two numbers on a line
+
+pub pair-written :
+    {l₀ l₁ l₂ : List ℕ} (c₀ c₁ c₂ : Cursor) (a b : ℕ) → a < numeralEnd → b < numeralEnd → c₀ .at + length (pairText a b) ≤ length l₀
+    → Put l₀ l₁ c₀ (printedIf (numberPrintable a) (numberText 32 a)) c₁ → Put l₁ l₂ c₁ (printedIf (numberPrintable b) (numberText 10 b)) c₂
+    → Written l₀ l₂ (c₀ .at) (pairText a b) (c₂ .at)
+pair-written {l₀} {l₁} {l₂} c₀ c₁ c₂ a b ha hb room p q =
+    let w = printed-written {b = numberPrintable a} {from = c₀} {next = c₁} (lt-ltb a numeralEnd ha) (room-first (c₀ .at) (length l₀) (numberText 32 a) (numberText 10 b) room) p in
+    let v = printed-written {b = numberPrintable b} {from = c₁} {next = c₂} (lt-ltb b numeralEnd hb) (room-next (numberText 10 b) room w) q in
+    written-then w v
+
+-- a title at the start, and room for the pair after it
+module _ (t : List ℕ) (a b : ℕ) {l₀ l₁ : List ℕ} {c : Cursor} (room : length (t ++ pairText a b) ≤ length l₀) (title : Put l₀ l₁ (record { at = 0 }) t c) where
+  pub title-written : Written l₀ l₁ 0 t (c .at)
+  title-written = put-written {from = record { at = 0 }} {next = c} (omega (arith, length-append t (pairText a b))) title
+
+  pub title-room : c .at + length (pairText a b) ≤ length l₁
+  title-room = room-next (pairText a b) (omega arith) title-written
+
+-- ---- a refusal
+
+pub refusal-short : (number line : ℕ) → length (refusalText number line) ≤ 25
+unfolding refusalText refusalTitle
+refusal-short number line = simp length-append (omega (arith, number-le 32 number, number-le 10 line))
+
+pub refusal-room : (number line : ℕ) {n : ℕ} → length (refusalText number line) ≤ n → length (refusalTitle ++ pairText number line) ≤ n
+unfolding refusalText
+refusal-room number line h = h
+
+pub refusal-written :
+    {l₀ l₁ l₂ : List ℕ} {p q : ℕ} (number line : ℕ) → Written l₀ l₁ 0 refusalTitle p → Written l₁ l₂ p (pairText number line) q → Written l₀ l₂ 0 (refusalText number line) q
+unfolding refusalText
+refusal-written number line a b = written-then a b
+
+-- ---- the lines before the sample rows
+
+module _ (width height : ℕ) (w : width ≤ 128) (h : height ≤ 128) where
+  pub sides-short : length (sidesText width height) ≤ 27
+  unfolding sidesText sidesTitle depthTitle
+  sides-short = simp length-append (omega (arith, number-short 32 2 width (omega arith), number-short 10 2 height (omega arith)))
+
+  pub sides-room : {n : ℕ} → 27 ≤ n → length (sidesTitle ++ pairText width height) ≤ n
+  unfolding sidesText
+  sides-room r = omega (arith, sides-short, length-append sidesTitle (pairText width height ++ depthTitle), length-append (pairText width height) depthTitle, length-append sidesTitle (pairText width height))
+
+  pub sides-written :
+      {l₀ l₁ l₂ l₃ : List ℕ} (c₁ c₂ c₃ : Cursor) → 27 ≤ length l₀ → Written l₀ l₁ 0 sidesTitle (c₁ .at)
+      → Written l₁ l₂ (c₁ .at) (pairText width height) (c₂ .at) → Put l₂ l₃ c₂ depthTitle c₃ → Written l₀ l₃ 0 (sidesText width height) (c₃ .at)
+  unfolding sidesText
+  sides-written c₁ c₂ c₃ r a b p =
+      let d =
+      put-written {from = c₂} {next = c₃}
+      (omega (
+        arith,
+        sides-short,
+        length-append sidesTitle (pairText width height ++ depthTitle),
+        length-append (pairText width height) depthTitle,
+        a .place,
+        b .place,
+        written-length a,
+        written-length b,
+      )) p in
+      written-then a (written-then b d)
+
+  -- room for the rows after them
+  pub rows-room :
+      {l₀ l₁ : List ℕ} {p : ℕ} → 27 + 4 * (width * height) ≤ length l₀ → Written l₀ l₁ 0 (sidesText width height) p → p + 4 * (width * height) ≤ length l₁
+  rows-room r a = omega (arith, sides-short, a .place, written-length a)
+
+pub sheet-written :
+    {l₀ l₁ l₂ : List ℕ} {p q : ℕ} (width height : ℕ) (samples : List ℕ) → Written l₀ l₁ 0 (sidesText width height) p → Written l₁ l₂ p (rowsText width height samples) q
+    → Written l₀ l₂ 0 (sheetText width height samples) q
+unfolding sheetText
+sheet-written width height samples a b = written-then a b
+
+-- ---- the sample rows
+
+pub sample-printed : (v : ℕ) → v < 256 → numberPrintable v ≡ true
+sample-printed v h = lt-ltb v numeralEnd (omega arith)
+
+-- a sample and the byte after it are at most 4 bytes
+pub samples-short : (width : ℕ) (samples : List ℕ) → ((i : ℕ) → getD samples i 0 < 256) → (m j : ℕ) → j < m → length (sampleText width samples j) ≤ 4
+samples-short width samples h m j l = number-short _ 2 (getD samples j 0) (let q = h j in omega arith)
+
+-- sheets of the same samples
+texts-same :
+    {A B : Type 0} (text : A → List ℕ) (f : ℕ → A) (other : B → List ℕ) (g : ℕ → B) (k : ℕ) → ((i : ℕ) → i < k → text (f i) ≡ other (g i))
+    → texts text (listOf f k) ≡ texts other (listOf g k)
+unfolding texts listOf
+texts-same text f other g zero h = refl
+texts-same text f other g (suc k) h =
+    texts-more text f k ∙ ap₂ (λ (x y : List ℕ). x ++ y) (texts-same text f other g k (λ i l. h i (omega arith))) (h k (omega arith)) ∙ sym (texts-more other g k)
+
+pub sheet-same :
+    (width height : ℕ) (s t : List ℕ) → ((i : ℕ) → i < width * height → getD s i 0 ≡ getD t i 0) → sheetText width height s ≡ sheetText width height t
+unfolding sheetText rowsText
+sheet-same width height s t h =
+    ap (λ (x : List ℕ). sidesText width height ++ x)
+    (texts-same (sampleText width s) (λ i. i) (sampleText width t) (λ i. i) (width * height) (λ i l. ap (numberText (byteAfter width i)) (h i l)))
+
+-- a sheet's text is as long as its samples allow
+pub sheet-short :
+    (width height : ℕ) (samples : List ℕ) → width ≤ 128 → height ≤ 128 → ((i : ℕ) → getD samples i 0 < 256) → length (sheetText width height samples) ≤ 27 + 4 * (width * height)
+unfolding sheetText rowsText
+sheet-short width height samples w h small =
+    omega (
+      arith,
+      length-append (sidesText width height) (texts (sampleText width samples) (listOf (λ i. i) (width * height))),
+      sides-short width height w h,
+      texts-length (sampleText width samples) (λ i. i) 4 (width * height) (samples-short width samples small (width * height)),
+    )
+
+-- the loop has printed all of them
+pub rows-all :
+    {l₀ l : List ℕ} {at p : ℕ} (width height : ℕ) (samples : List ℕ) (i : ℕ) → i ≡ width * height
+    → Written l₀ l at (texts (sampleText width samples) (listOf (λ k. k) i)) p → Written l₀ l at (rowsText width height samples) p
+unfolding rowsText
+rows-all {l₀} {l} {at} {p} width height samples i e w = subst (λ (k : ℕ). Written l₀ l at (texts (sampleText width samples) (listOf (λ j. j) k)) p) e w

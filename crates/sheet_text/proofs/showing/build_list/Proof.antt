@@ -1,0 +1,46 @@
+-- `build_list` meets its contract, case by case.
+use borrow.Author.Needs.{needs}
+use mathlib.Core.Path.{sym, _∙_, ap}
+use Rattle.pattern.specs.Told.{listTold}
+use Rattle.sheet_text.proofs.ShowLaws.{list-built, list-refused}
+use Rattle.sheet_text.proofs.showing.build_list.Statement.{statement}
+use Rattle.sheet_text.proofs.showing.build_list.Tie as tie
+
+wedgelets-requires : tie.Need-wedgelets-requires
+wedgelets-requires c κs = search needs
+
+enum-known-listed : tie.Need-enum-known-listed
+enum-known-listed c = search needs
+
+enum-told : tie.Need-enum-told
+enum-told c = search needs
+
+same-length : tie.Need-same-length
+same-length c = search needs
+
+returns : tie.Need-returns
+returns c =
+    let s = c .before .before .before .before .before .before .before .before in
+    let w = c .before .before .before .before .before .wedgelets in
+    list-built (s .args .n) (s .args .list .now) (w .last .1 .0) (s .pre) (w .ensures .1) (c .before .listed .given .0 .0) (ap listTold (sym (c .before .listed .given .1)) ∙ w .ensures .0)
+
+same-length-2 : tie.Need-same-length-2
+same-length-2 c = search needs
+
+returns-2 : tie.Need-returns-2
+returns-2 c =
+    let s = c .before .before .before .before .before .before .before in
+    let w = c .before .before .before .before .wedgelets in
+    list-refused (s .args .n) (s .args .list .now) (w .last .1 .0) (s .pre) (w .ensures .1) (c .enum-told .given .0 .0) (ap listTold (sym (c .enum-told .given .1)) ∙ w .ensures .0)
+
+pub build-list-spec : {M : Type 1} → statement M
+build-list-spec =
+    tie.close
+    (tie.spec
+    wedgelets-requires
+    enum-known-listed
+    enum-told
+    same-length
+    returns
+    same-length-2
+    returns-2)

@@ -1,0 +1,74 @@
+-- Document 01, "House file": what `show` prints of a file. Assumes nothing.
+use Prim.Native.Nat.{ℕ, _+_, _*_, _≤_}
+use mathlib.Core.Path.{_≡_}
+use mathlib.Core.Bool.{cond}
+use mathlib.Core.List.{List, [], _++_}
+use lib.Dec.{leb}
+use lib.ListN.{length, take, drop, replicate}
+use Rattle.arith.specs.Checks.{unless, Answer, answer, lent}
+use Rattle.pattern.specs.Size.{sizeOk}
+use Rattle.pattern.specs.Wedgelet.{wedgeletList}
+use Rattle.sheet.specs.State.{area, blocksOf}
+use Rattle.sheet.specs.Place.{placedInTurn}
+use Rattle.record_text.specs.declared.cursor.SizeFields.{SizeFields}
+use Rattle.record_text.specs.Parsed.{Parsed, badForm, found, andThen, exactly}
+use Rattle.record_text.specs.Line.{sizeTitle, sizeLine}
+use Rattle.record_text.specs.Lines.{Lined, refusedAt, read}
+use Rattle.record_file.specs.Reading.{File, Aids, aidsOf, readFile}
+use Rattle.record_read.specs.Back.{emptySheet, materialIn, recordIn}
+use Rattle.sheet_text.specs.Printed.{sheetText, refusalText}
+
+-- n of a size line, 0 where there is none
+abbrev pub sizeBy : Parsed SizeFields → ℕ
+sizeBy badForm = 0
+sizeBy (found z s) = z .n
+
+-- the size in a file: n of line 2 where lines 1 and 2 have their form, else 0
+unfoldable pub sizeIn : List ℕ → ℕ
+sizeIn s = sizeBy (andThen (exactly sizeTitle s) (λ _ t. sizeLine t))
+
+-- What a file of size n is read with: the wedgelet list (document 01: the edge list) for n, its count, and no texture. For a size that is
+-- not allowed there is no list, and the file is refused before a record is read.
+unfoldable pub aidsFor : ℕ → Aids
+aidsFor n = cond (sizeOk n) (aidsOf (wedgeletList n) (length (wedgeletList n)) []) (aidsOf [] 0 [])
+
+-- a list whose first words, as many as the count says, are the ones that a file of size n is read with
+pub record Listing (n : ℕ) (list : List ℕ) (count : ℕ) : Type 0 where
+  pub inside : count ≤ length list
+  pub whole : count ≡ length (take count list)
+  pub aids : aidsOf (take count list) count [] ≡ aidsFor n
+
+-- the samples that placing a file's records in turn on an empty sheet gives
+abbrev pub samplesIn : Aids → File → List ℕ
+samplesIn A F = placedInTurn (emptySheet F) (materialIn A F) (recordIn F) (replicate (area (emptySheet F)) 0) (blocksOf (emptySheet F))
+
+-- the text of what reading found
+abbrev pub textBy : Aids → Lined File → List ℕ
+textBy A (refusedAt number line) = refusalText number line
+textBy A (read F s) = sheetText (F .width) (F .height) (samplesIn A F)
+
+-- a file read as `show` reads it, with 16,384 samples and 1,024 records lent
+abbrev pub readWith : Aids → List ℕ → Lined File
+readWith A s = readFile A 16384 1024 s
+
+-- what is shown of the bytes of a file
+unfoldable pub shownText : List ℕ → List ℕ
+shownText s = let A = aidsFor (sizeIn s) in textBy A (readWith A s)
+
+-- ---- the call
+
+-- the longest text that is ever shown: 27 bytes before the rows, and 4 for each of 128 * 128 samples
+abbrev pub showSpace : ℕ
+showSpace = 27 + 4 * 16384
+
+-- 2: the lent space is shorter than that, whatever the file
+abbrev pub showRefusal : ℕ → ℕ
+showRefusal space = unless (leb showSpace space) 2 0
+
+-- `show_text` answers the text's length
+unfoldable pub showAnswer : List ℕ → ℕ → Answer ℕ
+showAnswer s space = answer (showRefusal space) (length (shownText s))
+
+-- the lent bytes afterwards: the text, and past it the old content
+unfoldable pub showAfter : List ℕ → List ℕ → List ℕ
+showAfter s old = lent (showRefusal (length old)) (shownText s ++ drop (length (shownText s)) old) old

@@ -1,0 +1,92 @@
+// What is shown of a record file's bytes.
+ghost use mathlib.Core.Path.{_≡_};
+ghost use Prim.Native.Nat.{_≤_};
+ghost use mathlib.Core.List.{[]};
+ghost use lib.ListN.{length};
+ghost use Rattle.record_text.specs.Put.{Written};
+ghost use Rattle.record_file.specs.Reading.{aidsOf};
+ghost use Rattle.sheet_text.specs.Showing.{sizeIn, Listing, textBy, readWith, showSpace, showAnswer, showAfter};
+ghost use Rattle.sheet_text.specs.Told.{shownTold};
+use crate::printing::put_refusal;
+use crate::printing::put_sheet;
+use pattern::Listed;
+use record_text::Cursor;
+use record_text::SizeRead;
+use record_text::TextRead;
+use record_text::read_size_line;
+use record_text::read_size_title;
+
+// What `show_text` answers: the length of the text, or the number of its refusal.
+pub enum Shown {
+    Length(usize),
+    Refused(u8),
+}
+
+// The size in a file: n of line 2 where lines 1 and 2 have their form, else 0.
+fn size_in(bytes: &[u8]) -> u32
+    ensures { λ r. ⌜ r ≡ sizeIn (now (bytes .entry)) ⌝ }
+{
+    let title = read_size_title(bytes, Cursor { at: 0 });
+    let TextRead::Past(next) = title else {
+        return 0;
+    };
+    let line = read_size_line(bytes, next);
+    let SizeRead::Value(z, _) = line else {
+        return 0;
+    };
+    z.n
+}
+
+// The wedgelet list for n in the first words of `list`, and its count; no word and 0 where n is not allowed.
+fn build_list(n: usize, list: &mut [u64]) -> usize
+    requires { ⌜ 756 ≤ length (now list) ⌝ }
+    ensures { λ r. ⌜ Listing n (now (list .exit)) r ⌝ }
+{
+    let listed = pattern::wedgelets(n, list);
+    match listed {
+        Listed::Count(count) => count,
+        Listed::Refused(_) => 0,
+    }
+}
+
+// The text of what reading with a list and its count finds, from the start of `out`; its length.
+fn put_read(bytes: &[u8], list: &[u64], count: usize, out: &mut [u8]) -> usize
+    requires { ⌜ showSpace ≤ length (now out) ⌝ }
+    ensures { λ r. ⌜ Written (now (out .entry)) (now (out .exit)) 0 (textBy (aidsOf (now (list .entry)) count []) (readWith (aidsOf (now (list .entry)) count []) (now (bytes .entry)))) r ⌝ }
+{
+    let mut samples = [0u8; 16384];
+    let mut kinds = [0u32; 1024];
+    let mut entries = [0u32; 1024];
+    let mut offs0 = [0i32; 1024];
+    let mut offs1 = [0i32; 1024];
+    let back = record_read::read(
+        bytes,
+        list,
+        count,
+        b"",
+        &mut samples,
+        &mut kinds,
+        &mut entries,
+        &mut offs0,
+        &mut offs1,
+    );
+    if back.refusal != 0 {
+        return put_refusal(out, back.refusal, back.line);
+    }
+    let sheet = back.sheet;
+    put_sheet(out, sheet.width, sheet.height, &samples)
+}
+
+// Writes what `show` prints of a file's bytes to `out` and answers its length, or refuses with 2 and writes nothing.
+pub fn show_text(bytes: &[u8], out: &mut [u8]) -> Shown
+    ensures answered { λ r. ⌜ shownTold r ≡ showAnswer (now (bytes .entry)) (length (now (out .entry))) ⌝ }
+    ensures left { λ r. ⌜ now (out .exit) ≡ showAfter (now (bytes .entry)) (now (out .entry)) ⌝ }
+{
+    if out.len() < 65563 {
+        return Shown::Refused(2);
+    }
+    let n = size_in(bytes);
+    let mut list = [0u64; 756];
+    let count = build_list(n as usize, &mut list);
+    Shown::Length(put_read(bytes, &list[..count], count, out))
+}
