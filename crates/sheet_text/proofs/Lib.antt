@@ -2,4 +2,7 @@
 pub mod PrintLaws
 pub mod RefusalLaws
 pub mod SampleLaws
+pub mod AidLaws
 pub mod ShowLaws
+pub mod PrefixLaws
+pub mod FirstBytes

@@ -41,6 +41,7 @@ module _ (t : List ℕ) (a b : ℕ) {l₀ l₁ : List ℕ} {c : Cursor} (room : 
 
 -- ---- a refusal
 
+-- its text is short, and is its title and then its two numbers
 pub refusal-short : (number line : ℕ) → length (refusalText number line) ≤ 25
 unfolding refusalText refusalTitle
 refusal-short number line = simp length-append (omega (arith, number-le 32 number, number-le 10 line))
@@ -57,6 +58,7 @@ refusal-written number line a b = written-then a b
 -- ---- the lines before the sample rows
 
 module _ (width height : ℕ) (w : width ≤ 128) (h : height ≤ 128) where
+  -- at most 27 bytes, written one after the other
   pub sides-short : length (sidesText width height) ≤ 27
   unfolding sidesText sidesTitle depthTitle
   sides-short = simp length-append (omega (arith, number-short 32 2 width (omega arith), number-short 10 2 height (omega arith)))
@@ -89,6 +91,7 @@ module _ (width height : ℕ) (w : width ≤ 128) (h : height ≤ 128) where
       {l₀ l₁ : List ℕ} {p : ℕ} → 27 + 4 * (width * height) ≤ length l₀ → Written l₀ l₁ 0 (sidesText width height) p → p + 4 * (width * height) ≤ length l₁
   rows-room r a = omega (arith, sides-short, a .place, written-length a)
 
+-- the whole text of a sheet
 pub sheet-written :
     {l₀ l₁ l₂ : List ℕ} {p q : ℕ} (width height : ℕ) (samples : List ℕ) → Written l₀ l₁ 0 (sidesText width height) p → Written l₁ l₂ p (rowsText width height samples) q
     → Written l₀ l₂ 0 (sheetText width height samples) q
@@ -97,6 +100,7 @@ sheet-written width height samples a b = written-then a b
 
 -- ---- the sample rows
 
+-- every sample has a numeral
 pub sample-printed : (v : ℕ) → v < 256 → numberPrintable v ≡ true
 sample-printed v h = lt-ltb v numeralEnd (omega arith)
 

@@ -60,7 +60,7 @@ head-below texture s =
     line-below lineEnd 3 (exactly depthTitle u) noMeaning _ (omega arith) (λ _ v _. tt)))
 
 -- the numbers of a size line that was read are sound
-head-sound : (texture : ℕ) (s : List ℕ) (z : SizeFields) (t : List ℕ) → headLines texture s ≡ read z t → sizeMeaning texture z ≡ 0
+pub head-sound : (texture : ℕ) (s : List ℕ) (z : SizeFields) (t : List ℕ) → headLines texture s ≡ read z t → sizeMeaning texture z ≡ 0
 head-sound texture s z t q =
     let p1 = line-parts 1 noMeaning _ (exactly sizeTitle s) z t q in
     let p2 = line-parts 2 (sizeMeaning texture) _ (sizeLine (p1 .rest)) z t (p1 .then) in
@@ -95,6 +95,7 @@ file-below A s =
     (rest-below A (f .0) t (size-small (length (A .texture)) (f .0) (p .size) .values) (blocks-few (length (A .texture)) (f .0) (p .size)))
     (λ l u _. tt))
 
+-- reading refuses with a number other than 0, at a line before that
 pub read-below : (A : Aids) (samples records : ℕ) (s : List ℕ) → Below lineEnd (readFile A samples records s)
 unfolding readFile
 read-below A samples records s =

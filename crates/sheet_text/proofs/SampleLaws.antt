@@ -75,6 +75,7 @@ in-turn-bytes S M f s (suc k) ok h =
 
 -- ---- what is read fits
 
+-- a sheet of at most 128 by 128 samples, and a sound table
 pub record FileFits (F : File) : Type 0 where
   pub some : 0 < F .width
   pub width : F .width ≤ 128
@@ -82,6 +83,7 @@ pub record FileFits (F : File) : Type 0 where
   pub samples : F .width * F .height ≤ 16384
   pub sound : tableOk (F .table) ≡ true
 
+-- the sides, the number of samples and the table of a file that was read
 pub file-fits : (A : Aids) (samples records : ℕ) (F : File) (s t : List ℕ) → readFile A samples records s ≡ read F t → FileFits F
 file-fits A samples records F s t e =
     let f = read-parts A samples records F s t e .1 .sound in
@@ -95,6 +97,7 @@ file-fits A samples records F s t e =
       sound = parts-table (F .table) (z .some) (z .values) (f .values) (f .rises);
     }
 
+-- so no text is longer than the space that `show_text` asks for
 pub text-short : (A : Aids) (samples records : ℕ) (s : List ℕ) → length (textBy A (readFile A samples records s)) ≤ showSpace
 text-short A samples records s = go (readFile A samples records s) refl
   where

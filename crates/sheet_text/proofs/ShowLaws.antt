@@ -1,83 +1,30 @@
 -- What is shown, from what reading answers and leaves. Assumes nothing.
 use Prim.Native.Nat.{ℕ, zero, suc, _+_, _*_, _≤_, _<_}
 use mathlib.Core.Path.{_≡_, refl, sym, _∙_, ap, subst}
-use mathlib.Core.Bool.{Bool, true, false}
-use mathlib.Core.List.{List, [], _∷_, _++_}
+use mathlib.Core.List.{List, _∷_, _++_}
 use native.Mathlib.Omega.{arith}
-use native.Mathlib.Nat.{mul-le-mul}
 use borrow.Author.Tests.{le-leb, lt-leb}
 use lib.IntN.{ℤ}
 use lib.ListN.{length, getD, take, drop, replicate, length-append, length-replicate, List·getD-append}
 use lib.Seq.{take-at}
 use Rattle.arith.specs.Checks.{refused, given}
-use Rattle.arith.proofs.CheckLaws.{passed, given-means, refused-means}
-use Rattle.pattern.specs.Size.{sizeOk}
-use Rattle.pattern.specs.Wedgelet.{wedgeletList}
-use Rattle.pattern.specs.Answer.{needed, listRefusal, listAnswer, listAfter}
-use Rattle.pattern.proofs.SizeLaws.{size-bounds}
+use Rattle.arith.proofs.CheckLaws.{given-means}
 use Rattle.sheet.specs.State.{area, blocksOf}
 use Rattle.sheet.specs.Place.{placedInTurn}
 use Rattle.sheet.specs.Compose.{recordsLent}
 use Rattle.sheet.proofs.InTurnLaws.{length-in-turn}
-use Rattle.record_text.specs.Parsed.{badForm, found, exactly}
-use Rattle.record_text.specs.declared.cursor.SizeFields.{SizeFields}
-use Rattle.record_text.specs.Line.{sizeTitle, sizeLine}
+use Rattle.record_text.specs.Numeral.{numeralEnd}
 use Rattle.record_text.specs.Lines.{Lined, refusedAt, read}
 use Rattle.record_text.specs.Put.{Written}
 use Rattle.record_text.proofs.PutLaws.{written-whole}
 use Rattle.record_read.specs.declared.reading.FileBack.{FileBack}
-use Rattle.record_file.specs.Reading.{File, Aids, aidsOf, readFile}
+use Rattle.record_file.specs.Reading.{File, Aids, readFile}
 use Rattle.record_read.specs.Back.{emptySheet, materialIn, recordIn, samplesBack, fileBack, leaving}
 use Rattle.sheet_text.specs.Printed.{sheetText}
-use Rattle.sheet_text.specs.Showing.{sizeIn, aidsFor, Listing, samplesIn, textBy, readWith, shownText, showSpace, showRefusal, showAnswer, showAfter}
+use Rattle.sheet_text.specs.Showing.{sizeIn, aidsFor, samplesIn, textBy, readWith, shownText, showSpace, showRefusal, showAnswer, showAfter}
 use Rattle.sheet_text.proofs.PrintLaws.{sheet-same}
 use Rattle.sheet_text.proofs.RefusalLaws.{Below, lineEnd, read-below}
 use Rattle.sheet_text.proofs.SampleLaws.{file-fits, text-short}
-
--- ---- the size in a file
-
-module _ (s : List ℕ) where
-  pub size-no-title : exactly sizeTitle s ≡ badForm → 0 ≡ sizeIn s
-  unfolding sizeIn
-  size-no-title e = rw e
-
-  pub size-no-line : {t : List ℕ} → exactly sizeTitle s ≡ found tt t → sizeLine t ≡ badForm → 0 ≡ sizeIn s
-  unfolding sizeIn
-  size-no-line e q = rw (e, q)
-
-  pub size-found : {t u : List ℕ} {z : SizeFields} → exactly sizeTitle s ≡ found tt t → sizeLine t ≡ found z u → z .n ≡ sizeIn s
-  unfolding sizeIn
-  size-found e q = rw (e, q)
-
--- ---- the list
-
--- 756 words are enough for every allowed size
-words-enough : (n : ℕ) → sizeOk n ≡ true → needed n ≤ 756
-words-enough n h = let b = size-bounds n h in mul-le-mul {n₂ = 28} {m₂ = 27} (omega arith) (omega arith)
-
-module _ (n : ℕ) (old new : List ℕ) (enough : 756 ≤ length old) (after : new ≡ listAfter n old) where
-  pub list-built : (count : ℕ) → given count ≡ listAnswer n old → Listing n new count
-  unfolding listAnswer listAfter listRefusal aidsFor
-  list-built count e =
-      let g = given-means (listRefusal n (length old)) (length (wedgeletList n)) count (sym e) in
-      let ok = passed (sizeOk n) 0 _ (g .0) .0 in
-      let is : new ≡ wedgeletList n ++ drop (length (wedgeletList n)) old = after ∙ rw (g .0) in
-      let words : take count new ≡ wedgeletList n = ap (take count) is ∙ take-at (wedgeletList n) (drop (length (wedgeletList n)) old) count (g .1) in
-      record {
-        inside = omega (arith, ap length is, length-append (wedgeletList n) (drop (length (wedgeletList n)) old), g .1);
-        whole = sym (g .1) ∙ sym (ap length words);
-        aids = rw (ok, words, ← g .1);
-      }
-
-  pub list-refused : (number : ℕ) → refused number ≡ listAnswer n old → Listing n new 0
-  unfolding listAnswer listRefusal aidsFor
-  list-refused number e =
-      let g = refused-means (listRefusal n (length old)) number (length (wedgeletList n)) (sym e) in
-      record { inside = omega arith; whole = refl; aids = go (sizeOk n) refl (g .1) }
-    where
-      go : (b : Bool) → sizeOk n ≡ b → (listRefusal n (length old) ≡ 0 → ⊥) → aidsOf [] 0 [] ≡ aidsFor n
-      go true e z = absurd (z (rw (e, le-leb (needed n) (length old) (omega (arith, words-enough n e)))))
-      go false e z = rw e
 
 -- ---- what reading answered
 
@@ -92,7 +39,8 @@ pub back-refused : (x : Lined File) (r : FileBack) → r ≡ fileBack x → (r .
 back-refused (refusedAt n k) r e h = rw e
 back-refused (read F s) r e h = absurd (h (ap (λ (b : FileBack). b .refusal) e))
 
-pub back-line : (x : Lined File) (r : FileBack) → r ≡ fileBack x → (r .refusal ≡ 0 → ⊥) → Below lineEnd x → r .line < 100000
+-- its line can be printed
+pub back-line : (x : Lined File) (r : FileBack) → r ≡ fileBack x → (r .refusal ≡ 0 → ⊥) → Below lineEnd x → r .line < numeralEnd
 back-line (refusedAt n k) r e h b = omega (arith, ap (λ (b : FileBack). b .line) e, b .1)
 back-line (read F s) r e h b = absurd (h (ap (λ (b : FileBack). b .refusal) e))
 
@@ -105,6 +53,7 @@ pub record SheetBack (A : Aids) (x : Lined File) (r : FileBack) (samples : List 
   pub held : r .sheet .width * r .sheet .height ≤ length samples
   pub same : sheetText (r .sheet .width) (r .sheet .height) samples ≡ textBy A x
 
+-- the first of many zeros
 pub take-zeros : (m k : ℕ) → k ≤ m → take {A = ℕ} k (replicate m 0) ≡ replicate k 0
 take-zeros m zero h = refl
 take-zeros zero (suc k) h = absurd (omega arith)
@@ -131,6 +80,7 @@ module _ (A : Aids) (F : File) (zeros : List ℕ) (empty : take (area (emptyShee
       List·getD-append drawn (drop (F .width * F .height) zeros) 0 i (omega (arith, drawn-length))
       ∙ ap (λ (z : List ℕ). getD (placedInTurn (emptySheet F) (materialIn A F) (recordIn F) z (blocksOf (emptySheet F))) i 0) empty
 
+-- what was answered and left where nothing was refused
 pub back-read :
     (A : Aids) (s : List ℕ) (r : FileBack) (samples zeros : List ℕ) → ((k : ℕ) → k ≤ 16384 → take k zeros ≡ replicate k 0) → r ≡ fileBack (readWith A s) → r .refusal ≡ 0
     → samples ≡ leaving (readWith A s) (λ F. samplesBack A F zeros) zeros → SheetBack A (readWith A s) r samples
@@ -155,15 +105,18 @@ back-read A s r samples zeros empty e h d = go (readWith A s) refl e d
 
 -- ---- the answer
 
+-- no text is longer than the space that is asked for
 pub shown-short : (s : List ℕ) → length (shownText s) ≤ showSpace
 unfolding shownText
 shown-short s = text-short (aidsFor (sizeIn s)) 16384 1024 s
 
 module _ (s old : List ℕ) where
+  -- the space is short
   pub show-short : length old < showSpace → (refused 2 ≡ showAnswer s (length old)) × (old ≡ showAfter s old)
   unfolding showAnswer showAfter
   show-short h = rw (lt-leb showSpace (length old) h) (refl, refl)
 
+  -- or the text was written
   pub show-given :
       {new : List ℕ} {k : ℕ} → showSpace ≤ length old → Written old new 0 (shownText s) k → (given k ≡ showAnswer s (length old)) × (new ≡ showAfter s old)
   unfolding showAnswer showAfter

@@ -15,6 +15,7 @@ use Rattle.record_text.specs.Parsed.{Parsed, badForm, found, andThen, exactly}
 use Rattle.record_text.specs.Line.{sizeTitle, sizeLine}
 use Rattle.record_text.specs.Lines.{Lined, refusedAt, read}
 use Rattle.record_file.specs.Reading.{File, Aids, aidsOf, readFile}
+use Rattle.record_file.specs.Writing.{spaceFor}
 use Rattle.record_read.specs.Back.{emptySheet, materialIn, recordIn}
 use Rattle.sheet_text.specs.Printed.{sheetText, refusalText}
 
@@ -54,6 +55,10 @@ readWith A s = readFile A 16384 1024 s
 -- what is shown of the bytes of a file
 unfoldable pub shownText : List ℕ → List ℕ
 shownText s = let A = aidsFor (sizeIn s) in textBy A (readWith A s)
+
+-- the bytes that the longest sound file can need: 256 table values and 1,024 records
+abbrev pub fileSpace : ℕ
+fileSpace = spaceFor 256 1024
 
 -- ---- the call
 

@@ -2,6 +2,7 @@
 ghost use mathlib.Core.Path.{_≡_};
 ghost use Prim.Native.Nat.{_+_, _*_, _<_, _≤_};
 ghost use lib.ListN.{length};
+ghost use Rattle.record_text.specs.Numeral.{numeralEnd};
 ghost use Rattle.record_text.specs.Put.{Written};
 ghost use Rattle.sheet_text.specs.Printed.{pairText, byteAfter, sidesText, rowsText, sheetText, refusalText};
 use record_text::Cursor;
@@ -29,7 +30,7 @@ fn byte_after(width: usize, i: usize) -> u8
 
 // Two numbers on a line; the place after it.
 fn put_pair(out: &mut [u8], from: Cursor, a: u32, b: u32) -> Cursor
-    requires { ⌜ (a < 100000) × (b < 100000) ⌝ }
+    requires { ⌜ (a < numeralEnd) × (b < numeralEnd) ⌝ }
     requires { ⌜ from .at + length (pairText a b) ≤ length (now out) ⌝ }
     ensures { λ r. ⌜ Written (now (out .entry)) (now (out .exit)) (from .at) (pairText a b) (r .at) ⌝ }
 {
@@ -75,7 +76,7 @@ pub(crate) fn put_sheet(out: &mut [u8], width: u32, height: u32, samples: &[u8])
 
 // The text of a refusal from the start of `out`; its length.
 pub(crate) fn put_refusal(out: &mut [u8], number: u8, line: u32) -> usize
-    requires { ⌜ (line < 100000) × (length (refusalText number line) ≤ length (now out)) ⌝ }
+    requires { ⌜ (line < numeralEnd) × (length (refusalText number line) ≤ length (now out)) ⌝ }
     ensures { λ r. ⌜ Written (now (out .entry)) (now (out .exit)) 0 (refusalText number line) r ⌝ }
 {
     let title = put_text(out, Cursor { at: 0 }, b"refusal line\n");

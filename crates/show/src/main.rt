@@ -3,7 +3,8 @@ use libc::STDIN_FILENO;
 use libc::STDOUT_FILENO;
 use sheet_text::Shown;
 
-// Reads one byte more than the longest sound file has (80 + 4 * 256 + 32 * 1024 bytes), and writes what is shown of it.
+// Reads one byte more than the longest sound file can need (80 + 4 * 256 + 32 * 1024 bytes), and writes what is shown of it. What follows
+// changes nothing: `first-bytes` in crates/sheet_text/proofs/FirstBytes.antt.
 fn main() {
     let mut file = [0u8; 33873];
     let read = io::read_full(STDIN_FILENO, &mut file);

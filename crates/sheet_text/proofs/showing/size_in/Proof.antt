@@ -5,7 +5,7 @@ use lib.ListN.{drop}
 use Rattle.record_text.specs.Parsed.{found, exactly}
 use Rattle.record_text.specs.Line.{sizeTitle}
 use Rattle.record_text.specs.Told.{textTold, sizeTold}
-use Rattle.sheet_text.proofs.ShowLaws.{size-no-title, size-no-line, size-found}
+use Rattle.sheet_text.proofs.AidLaws.{size-no-title, size-no-line, size-found}
 use Rattle.sheet_text.proofs.showing.size_in.Statement.{statement}
 use Rattle.sheet_text.proofs.showing.size_in.Tie as tie
 
