@@ -18,7 +18,7 @@ use Rattle.pattern.specs.Size.{sizeOk, wordOk}
 use Rattle.pattern.specs.Answer.{samplesRefusal, contourAnswer}
 use Rattle.pattern.specs.Contour.{threshold, contourOf}
 use Rattle.pattern.proofs.ContourLaws.{contour-lt}
-use Rattle.prediction.specs.Answer.{sidesRefusal}
+use Rattle.sides.specs.Answer.{sidesRefusal}
 use Rattle.choice.specs.Record.{Case}
 use Rattle.choice.specs.Search.{trialCost, bestCost, patternAt, lastPattern, bestPattern}
 use Rattle.choice.specs.Tally.{TrialOf, blockCase, Weighable, SidesOf, PickedOf}

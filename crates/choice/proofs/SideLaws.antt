@@ -10,7 +10,7 @@ use Rattle.arith.specs.Bits.{testBit}
 use Rattle.arith.specs.Distance.{dist}
 use Rattle.arith.proofs.Sums.{sum-ext, sum-add, sum-le}
 use Rattle.arith.proofs.ListLaws.{listOf-at}
-use Rattle.prediction.specs.Sides.{sideDepth}
+use Rattle.sides.specs.Sides.{sideDepth}
 use Rattle.prediction.specs.Block.{levelOf, sampleOf, predicted}
 use Rattle.choice.specs.Offset.{trial}
 use Rattle.choice.specs.Record.{Case, predictionBy, difference}

@@ -12,10 +12,10 @@ use Rattle.depth_table.specs.Table.{indexOf}
 use Rattle.depth_table.proofs.TableLaws.{table-counts, table-bytes}
 use Rattle.depth_table.proofs.IndexLaws.{index-below}
 use Rattle.pattern.proofs.SizeLaws.{square-64}
-use Rattle.prediction.specs.Sides.{sideDepth}
-use Rattle.prediction.specs.Answer.{sidesRefusal}
+use Rattle.sides.specs.Sides.{sideDepth}
+use Rattle.sides.specs.Answer.{sidesRefusal}
 use Rattle.prediction.specs.Block.{levelOf}
-use Rattle.prediction.proofs.CallLaws.{sides-accepted}
+use Rattle.sides.proofs.CallLaws.{sides-accepted}
 use Rattle.choice.specs.Offset.{offset}
 use Rattle.choice.specs.Search.{sideCost, trialCost}
 use Rattle.choice.specs.Tally.{Costs, TrialOf, blockCase, Weighable}

@@ -13,7 +13,7 @@ use Rattle.arith.specs.Sum.{sumTo}
 use Rattle.depth_table.specs.Table.{bytes, rising, tableOk, nearestTo, indexOf}
 use Rattle.depth_table.specs.Examples.{sampleTable}
 use Rattle.pattern.specs.Contour.{threshold, contourOf}
-use Rattle.prediction.specs.Sides.{vertEdge, horEdge, ltBy, brBy, lt, br, sideDepth}
+use Rattle.sides.specs.Sides.{vertEdge, horEdge, ltBy, brBy, lt, br, sideDepth}
 use Rattle.prediction.specs.Block.{levelOf, sampleOf, predicted}
 use Rattle.prediction.specs.Cases.{sampleNeighbours}
 use Rattle.choice.specs.Offset.{trial, offset}

@@ -10,7 +10,7 @@ use Rattle.arith.specs.Distance.{dist}
 use Rattle.arith.specs.Least.{leastTo}
 use Rattle.arith.specs.Sum.{sumTo}
 use Rattle.pattern.specs.Contour.{contourOf}
-use Rattle.prediction.specs.Sides.{sideDepth}
+use Rattle.sides.specs.Sides.{sideDepth}
 use Rattle.prediction.specs.Block.{levelOf}
 use Rattle.choice.specs.Offset.{offset}
 use Rattle.choice.specs.Record.{Case, Record}

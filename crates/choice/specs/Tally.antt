@@ -11,7 +11,7 @@ use Rattle.arith.specs.Bits.{bit}
 use Rattle.arith.specs.Least.{leastTo}
 use Rattle.arith.specs.Sum.{sumTo}
 use Rattle.depth_table.specs.Table.{tableOk}
-use Rattle.prediction.specs.Answer.{sidesRefusal}
+use Rattle.sides.specs.Answer.{sidesRefusal}
 use Rattle.choice.specs.Record.{Case, caseOf}
 use Rattle.choice.specs.Search.{belongs, sideCost, bestTrial, bestCost, patternAt, bestPattern}
 

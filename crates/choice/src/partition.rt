@@ -144,7 +144,7 @@ pub(crate) fn best_offset(
     requires { ⌜ Weighable n word (now border) (now original) (now table) reach ⌝ }
     ensures { λ r. ⌜ TrialOf (trialCost (blockCase n (now (border .entry)) (now (original .entry)) (now (table .entry)) reach) word side) (2 * reach) (r .number) (r .cost) × (r .cost ≤ 65280) ⌝ }
 {
-    let depth = prediction::side_depth(n, word, border, side);
+    let depth = sides::side_depth(n, word, border, side);
     let index = depth_table::nearest_index(table, depth);
     let costs = side_costs(original, word, side);
     best_of_costs(&costs, table, index, reach)

@@ -4,16 +4,9 @@ ghost use mathlib.Core.Bool.{_||_};
 ghost use Prim.Native.Nat.{_*_, _≤_};
 ghost use lib.Dec.{eqb, ltb};
 ghost use lib.ListN.{length};
-ghost use Rattle.arith.specs.Checks.{unless};
 ghost use Rattle.choice.specs.Record.{caseOf};
 ghost use Rattle.choice.specs.Answer.{lengthsOk, wordsOk, chooseRefusal};
-
-// The number where the check fails, else what the checks after it say.
-fn check(ok: bool, number: u8, rest: u8) -> u8
-    ensures { λ r. ⌜ r ≡ unless ok number rest ⌝ }
-{
-    if ok { rest } else { number }
-}
+use pattern::check;
 
 // Whether a texture is empty or has n * n samples.
 fn texture_ok(n: usize, texture: usize) -> bool

@@ -13,7 +13,7 @@ use Rattle.arith.proofs.CheckLaws.{given-means, lent-given}
 use Rattle.arith.proofs.SquareLaws.{length-transposed, transposed-twice}
 use Rattle.pattern.specs.Wedgelet.{wedgeletList}
 use Rattle.pattern.specs.Answer.{listRefusal, listAnswer, listAfter}
-use Rattle.prediction.proofs.TransposedLaws.{length-transposed-neighbours, neighbours-transposed-twice}
+use Rattle.sides.proofs.TransposedLaws.{length-transposed-neighbours, neighbours-transposed-twice}
 use Rattle.choice.specs.Record.{Case, caseOf}
 use Rattle.choice.specs.Answer.{chooseRefusal}
 use Rattle.choice.proofs.AcceptLaws.{Accepted, accepted, accept}

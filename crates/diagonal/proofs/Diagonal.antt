@@ -6,8 +6,8 @@ use native.Mathlib.Nat.{le-antisymm}
 use native.Mathlib.Omega.{arith}
 use Rattle.arith.specs.Checks.{given}
 use Rattle.arith.proofs.CheckLaws.{answer-given}
-use Rattle.prediction.specs.Transposed.{EndsDecide}
-use Rattle.prediction.proofs.TransposedLaws.{ends-transposed}
+use Rattle.sides.specs.Transposed.{EndsDecide}
+use Rattle.sides.proofs.TransposedLaws.{ends-transposed}
 use Rattle.choice.specs.Record.{Case, Record, Within, LeastRecord}
 use Rattle.choice.specs.Search.{chosen}
 use Rattle.choice.specs.Answer.{chooseRefusal, chooseAnswer}

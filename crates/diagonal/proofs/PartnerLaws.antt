@@ -14,7 +14,7 @@ use Rattle.pattern.specs.Pattern.{transposed}
 use Rattle.pattern.specs.Wedgelet.{wedgeletList}
 use Rattle.pattern.proofs.ContourLaws.{contour-transposed}
 use Rattle.pattern.proofs.WedgeletLaws.{list-closed}
-use Rattle.prediction.specs.Transposed.{transposedNeighbours, EndsDecide}
+use Rattle.sides.specs.Transposed.{transposedNeighbours, EndsDecide}
 use Rattle.prediction.specs.Block.{predicted}
 use Rattle.prediction.proofs.TransposedLaws.{prediction-transposed}
 use Rattle.choice.specs.Record.{Case, Record, PatternIn, Within, patternBy, patternOf, predictionOf, difference, costOf}

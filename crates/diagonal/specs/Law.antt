@@ -11,7 +11,7 @@ use Rattle.pattern.specs.Pattern.{transposed}
 use Rattle.pattern.specs.Wedgelet.{wedgeletList}
 use Rattle.pattern.specs.Answer.{listAnswer, listAfter, contourAnswer}
 use Rattle.prediction.specs.Answer.{predictBlock}
-use Rattle.prediction.specs.Transposed.{transposedNeighbours, EndsDecide}
+use Rattle.sides.specs.Transposed.{transposedNeighbours, EndsDecide}
 use Rattle.choice.specs.Record.{Case, caseOf, Record, Within, patternOf, predictionOf, costOf, LeastRecord}
 use Rattle.choice.specs.Answer.{chooseRefusal, chooseAnswer}
 

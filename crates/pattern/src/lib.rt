@@ -1,5 +1,6 @@
-// Blocks and patterns of n by n samples, the wedgelet list and the contour.
+// Blocks and patterns of n by n samples, the wedgelet list and the contour; the steps of a chain of checks.
 mod block;
+mod checks;
 mod contours;
 mod size;
 mod wedgelet;
@@ -9,6 +10,8 @@ pub use block::CAPACITY;
 pub use block::block_of;
 pub use block::transposed;
 pub use block::write_block;
+pub use checks::check;
+pub use checks::lesser;
 pub use contours::Contoured;
 pub use contours::contour;
 pub use contours::samples_refusal;

@@ -1,19 +1,21 @@
 -- Laws of the predicted block: its length, its range, and the form in which the code writes it. Assumes nothing.
 use Prim.Native.Nat.{ℕ, _*_, _<_}
-use mathlib.Core.Path.{_≡_}
+use mathlib.Core.Path.{_≡_, sym, ap₂, _∙_}
 use mathlib.Core.Bool.{Bool, true, false, cond}
 use mathlib.Core.List.{List}
 use lib.IntN.{ℤ}
 use lib.ListN.{length, getD}
 use Rattle.arith.specs.Bits.{testBit}
+use Rattle.arith.specs.Checks.{lent}
 use Rattle.arith.specs.Distance.{clamped}
 use Rattle.arith.specs.Lists.{listOf}
+use Rattle.arith.proofs.CheckLaws.{lent-given}
 use Rattle.arith.proofs.ListLaws.{length-listOf, listOf-at, listOf-ext}
 use Rattle.depth_table.specs.Table.{tableOk, indexOf}
 use Rattle.depth_table.proofs.TableLaws.{table-bytes}
-use Rattle.prediction.specs.Sides.{differ, lt, br, sideDepth}
+use Rattle.sides.specs.Sides.{sideDepth}
+use Rattle.sides.specs.Answer.{sidesRefusal}
 use Rattle.prediction.specs.Block.{levelOf, sampleOf, predicted}
-use Rattle.prediction.proofs.SideLaws.{side-depth-bits}
 
 -- every value of a sound table is below 256
 pub level-byte : (t : List ℕ) (d : ℕ) (off : ℤ) → tableOk t ≡ true → levelOf t d off < 256
@@ -22,10 +24,10 @@ level-byte t d off ok = table-bytes t ok (clamped (length t) (indexOf t d) off)
 
 -- the level v of the samples with the mark m, by the steps that the code takes
 pub level-found :
-    (n w : ℕ) (s t : List ℕ) (m : Bool) {v d a b : ℕ} {z off : ℤ}
-    → v ≡ levelOf t d z → d ≡ cond (differ m (testBit w 0)) b a → a ≡ lt n w s → b ≡ br n w s → z ≡ off
+    (n w : ℕ) (s t : List ℕ) (m : Bool) {v d : ℕ} {z off : ℤ}
+    → sidesRefusal n w s ≡ 0 → v ≡ levelOf t d z → d ≡ lent (sidesRefusal n w s) (sideDepth n w s m) 0 → z ≡ off
     → v ≡ levelOf t (sideDepth n w s m) off
-level-found n w s t m e p q r o = cc (side-depth-bits n w s m)
+level-found n w s t m none e p o = e ∙ ap₂ (levelOf t) (p ∙ sym (lent-given _ _ 0 none)) o
 
 module _ (n w : ℕ) (s t : List ℕ) (off0 off1 : ℤ) where
   pub length-predicted : length (predicted n w s t off0 off1) ≡ n * n

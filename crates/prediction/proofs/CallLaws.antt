@@ -1,4 +1,4 @@
--- What holds where no check of a call fails. Assumes nothing.
+-- What holds where no check of `predict` fails. Assumes nothing.
 use Prim.Native.Nat.{ℕ, _*_, _^_, _≤_, _<_}
 use mathlib.Core.Path.{_≡_, sym, _∙_}
 use mathlib.Core.Bool.{true}
@@ -7,7 +7,7 @@ use lib.Count.{ones}
 use lib.Dec.{eqb}
 use lib.IntN.{ℤ}
 use lib.ListN.{length}
-use borrow.Author.Tests.{eqb-true, ltb-true}
+use borrow.Author.Tests.{eqb-true, ltb-true, lt-ltb}
 use Rattle.arith.specs.Bits.{bit, testBit}
 use Rattle.arith.specs.Checks.{given}
 use Rattle.arith.specs.Sum.{sumTo}
@@ -17,25 +17,10 @@ use Rattle.depth_table.specs.Table.{tableOk}
 use Rattle.pattern.specs.Size.{sizeOk, wordOk}
 use Rattle.pattern.proofs.PatternLaws.{marks-counted}
 use Rattle.pattern.proofs.SizeLaws.{size-bounds}
+use Rattle.sides.specs.Answer.{sidesRefusal}
+use Rattle.sides.proofs.CallLaws.{sides-pass}
 use Rattle.prediction.specs.Offset.{offsetOk}
-use Rattle.prediction.specs.Answer.{sidesRefusal, lengthsOk, predictRefusal, predictAnswer}
-
--- `side_depths` refuses nothing
-pub record SidesAccepted (n w : ℕ) (s : List ℕ) : Type 0 where
-  pub size : sizeOk n ≡ true
-  pub low : 4 ≤ n
-  pub high : n ≤ 8
-  pub long : length s ≡ 4 * n
-  pub inside : w < 2 ^ (n * n)
-
-pub sides-accepted : (n w : ℕ) (s : List ℕ) → sidesRefusal n w s ≡ 0 → SidesAccepted n w s
-unfolding sidesRefusal
-sides-accepted n w s h =
-    let p₁ = passed (sizeOk n) 0 _ h in
-    let p₂ = passed (eqb (length s) (4 * n)) 1 _ (p₁ .1) in
-    let p₃ = passed (wordOk n w) 4 0 (p₂ .1) in
-    let b = size-bounds n (p₁ .0) in
-    record { size = p₁ .0; low = b .0; high = b .1; long = eqb-true _ _ (p₂ .0); inside = ltb-true w (2 ^ (n * n)) (p₃ .0) }
+use Rattle.prediction.specs.Answer.{lengthsOk, predictRefusal, predictAnswer}
 
 -- `predict` refuses nothing
 pub record PredictAccepted (n w neighbours : ℕ) (t : List ℕ) (off0 off1 : ℤ) (samples : ℕ) : Type 0 where
@@ -73,6 +58,12 @@ predict-accepted n w neighbours t off0 off1 samples h =
       first = p₅ .0;
       second = p₆ .0;
     }
+
+-- nor does `side_depths`, which checks some of the same
+pub sides-accept :
+    {n w : ℕ} (s : List ℕ) {t : List ℕ} {off0 off1 : ℤ} {samples : ℕ}
+    → PredictAccepted n w (length s) t off0 off1 samples → sidesRefusal n w s ≡ 0
+sides-accept s p = sides-pass _ _ s (p .size) (p .long) (lt-ltb _ _ (p .inside))
 
 -- the number of marks in the answer is the number of marked samples
 pub marks-answered :

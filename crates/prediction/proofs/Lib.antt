@@ -1,6 +1,5 @@
--- Laws of side depths and predicted blocks.
+-- Laws of predicted blocks.
 pub mod OffsetLaws
-pub mod SideLaws
 pub mod BlockLaws
 pub mod TransposedLaws
 pub mod CallLaws

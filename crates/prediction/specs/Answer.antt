@@ -1,4 +1,4 @@
--- What the calls answer, and what they leave in the lent block: refusals in document 01's order, and the values. Assumes nothing.
+-- What `predict` answers, and what it leaves in the lent block: refusals in document 01's order, and the values. Assumes nothing.
 use Prim.Native.Nat.{ℕ, _*_}
 use mathlib.Core.Bool.{Bool, _&&_}
 use mathlib.Core.List.{List}
@@ -9,30 +9,10 @@ use lib.ListN.{length}
 use Rattle.arith.specs.Checks.{unless, Answer, refused, given, answer, lent}
 use Rattle.depth_table.specs.Table.{tableOk}
 use Rattle.pattern.specs.Size.{sizeOk, wordOk}
-use Rattle.prediction.specs.Sides.{lt, br}
 use Rattle.prediction.specs.Offset.{offsetOk}
 use Rattle.prediction.specs.Block.{predicted}
-use Rattle.prediction.specs.declared.SideDepths.{SideDepths}
-use Rattle.prediction.specs.declared.SideDepths.the-variants as sides
 use Rattle.prediction.specs.declared.Predicted.{Predicted}
 use Rattle.prediction.specs.declared.Predicted.the-variants as block
-
--- ---- side_depths
-
--- 1: the size; 2: the neighbours, which are 4n; 5: the word
-unfoldable pub sidesRefusal : ℕ → ℕ → List ℕ → ℕ
-sidesRefusal n w s = unless (sizeOk n) 1 (unless (eqb (length s) (4 * n)) 2 (unless (wordOk n w) 5 0))
-
--- lt and br
-unfoldable pub sidesAnswer : ℕ → ℕ → List ℕ → Answer (ℕ × ℕ)
-sidesAnswer n w s = answer (sidesRefusal n w s) (lt n w s, br n w s)
-
--- document 01's number or values for each case of the code's answer
-abbrev pub sidesTold : SideDepths → Answer (ℕ × ℕ)
-sidesTold (sides.Sides a b) = given (a .0, b .0)
-sidesTold (sides.Refused number) = refused number
-
--- ---- predict
 
 -- as many neighbours as 4n, and as many samples in the lent block as n * n
 unfoldable pub lengthsOk : ℕ → ℕ → ℕ → Bool

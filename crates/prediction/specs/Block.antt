@@ -8,7 +8,7 @@ use Rattle.arith.specs.Bits.{testBit}
 use Rattle.arith.specs.Distance.{clamped}
 use Rattle.arith.specs.Lists.{listOf}
 use Rattle.depth_table.specs.Table.{indexOf}
-use Rattle.prediction.specs.Sides.{sideDepth}
+use Rattle.sides.specs.Sides.{sideDepth}
 
 -- the table value at: the index of the depth d, plus the offset, clamped (document 01: held) to 0 .. table count - 1
 unfoldable pub levelOf : List ℕ → ℕ → ℤ → ℕ

@@ -11,9 +11,9 @@ use Rattle.depth_table.specs.Table.{nearestTo, indexOf}
 use Rattle.depth_table.specs.Examples.{sampleTable}
 use Rattle.pattern.specs.Pattern.{transposed}
 use Rattle.pattern.specs.Wedgelet.{candidate, wedgelet, holds, keep, ends, starts, wedgeletList}
-use Rattle.prediction.specs.Sides.{vertEdge, horEdge, ltBy, brBy, lt, br, sideDepth}
+use Rattle.sides.specs.Sides.{vertEdge, horEdge, ltBy, brBy, lt, br, sideDepth}
 use Rattle.prediction.specs.Block.{levelOf, sampleOf, predicted}
-use Rattle.prediction.specs.Transposed.{transposedNeighbours}
+use Rattle.sides.specs.Transposed.{transposedNeighbours}
 
 -- L = 10, 20 .. 70 and the given L7; T = 100, 110 .. 170
 abbrev pub sampleNeighbours : ℕ → List ℕ

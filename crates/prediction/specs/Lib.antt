@@ -1,7 +1,5 @@
--- Document 01, "Side depths" and "Predicted block".
-pub mod Sides
+-- Document 01, "Predicted block".
 pub mod Offset
 pub mod Block
 pub mod Answer
-pub mod Transposed
 pub mod Cases

@@ -4,12 +4,11 @@ ghost use mathlib.Core.Bool.{cond};
 ghost use Prim.Native.Nat.{_≤_};
 ghost use lib.ListN.{length};
 ghost use Rattle.arith.specs.Bits.{testBit};
-ghost use Rattle.arith.specs.Checks.{unless};
 ghost use Rattle.arith.specs.Lists.{listOf};
 ghost use Rattle.prediction.specs.Answer.{lengthsOk, predictRefusal, predictAnswer, predictBlock, predictTold};
 use crate::Predicted;
 use crate::offset;
-use crate::sides;
+use pattern::check;
 
 fn pick(m: bool, a: u8, b: u8) -> u8
     ensures { λ r. ⌜ r ≡ cond m a b ⌝ }
@@ -38,13 +37,6 @@ fn lengths_ok(n: usize, neighbours: usize, samples: usize) -> bool
         return false;
     }
     samples == n * n
-}
-
-// The number where the check does not hold, else what the checks after it say.
-fn check(ok: bool, number: u8, rest: u8) -> u8
-    ensures { λ r. ⌜ r ≡ unless ok number rest ⌝ }
-{
-    if ok { rest } else { number }
 }
 
 fn predict_refusal(
@@ -87,9 +79,8 @@ pub fn predict(
     if refusal != 0 {
         return Predicted::Refused(refusal);
     }
-    let d = sides::depths_of(n, word, border);
-    let v0 = offset::level(table, sides::depth_at(word, d, false), off0);
-    let v1 = offset::level(table, sides::depth_at(word, d, true), off1);
+    let v0 = offset::level(table, sides::side_depth(n, word, border, false), off0);
+    let v1 = offset::level(table, sides::side_depth(n, word, border, true), off1);
     paint(word, v1, v0, block);
     Predicted::Marks(u64::count_ones(word))
 }

@@ -1,19 +1,9 @@
-// Side depths and the predicted block (document 01, "Side depths", "Predicted block").
+// The predicted block (document 01, "Predicted block").
 mod block;
 mod offset;
-mod sides;
 
 pub use block::predict;
-use depth_table::DepthValue;
 pub use offset::offset_ok;
-pub use sides::side_depth;
-pub use sides::side_depths;
-
-// What `side_depths` answers: lt and br (document 01: A and B), or the number of its refusal.
-pub enum SideDepths {
-    Sides(DepthValue, DepthValue),
-    Refused(u8),
-}
 
 // What `predict` answers: the number of marks, or the number of its refusal.
 pub enum Predicted {

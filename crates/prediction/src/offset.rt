@@ -1,11 +1,12 @@
 // Offsets, and the table value that a depth and an offset give.
 ghost use mathlib.Core.Path.{_≡_};
-ghost use Prim.Native.Nat.{_-_, min};
+ghost use Prim.Native.Nat.{_-_};
 ghost use Rattle.arith.specs.Distance.{clamped};
 ghost use Rattle.prediction.specs.Offset.{offsetOk};
 ghost use Rattle.prediction.specs.Block.{levelOf};
 use depth_table::DepthIndex;
 use depth_table::DepthValue;
+use pattern::lesser;
 
 // Whether an offset is -255 to 255.
 pub fn offset_ok(off: i32) -> bool
@@ -25,12 +26,6 @@ fn minus(a: usize, b: usize) -> usize
     ensures { λ r. ⌜ r ≡ a - b ⌝ }
 {
     if a < b { 0 } else { a - b }
-}
-
-fn lesser(a: usize, b: usize) -> usize
-    ensures { λ r. ⌜ r ≡ min a b ⌝ }
-{
-    if a < b { a } else { b }
 }
 
 // An index plus an offset, clamped to 0 .. count - 1.

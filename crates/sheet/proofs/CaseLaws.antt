@@ -11,7 +11,7 @@ use lib.Dec.{ltb}
 use lib.ListN.{getD}
 use Rattle.arith.specs.Square.{place}
 use Rattle.arith.proofs.ListLaws.{listOf-at}
-use Rattle.prediction.specs.Sides.{leftAt, topAt}
+use Rattle.sides.specs.Sides.{leftAt, topAt}
 use Rattle.sheet.specs.Neighbours.{readFrom, aboveCount, leftSource, topSource, sourceAt, neighboursAt}
 use Rattle.sheet.specs.Laws.{NeighbourCases}
 use Rattle.sheet.proofs.SourceLaws.{above-some, left-own, left-top, left-nowhere, top-own, top-left, top-nowhere}

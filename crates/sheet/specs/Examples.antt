@@ -11,7 +11,7 @@ use Rattle.arith.specs.Lists.{listOf}
 use Rattle.arith.specs.Sum.{sumTo}
 use Rattle.depth_table.specs.Examples.{sampleTable}
 use Rattle.depth_table.specs.Table.{bytes, rising, tableOk, nearestTo, indexOf}
-use Rattle.prediction.specs.Sides.{vertEdge, horEdge, ltBy, brBy, lt, br, sideDepth}
+use Rattle.sides.specs.Sides.{vertEdge, horEdge, ltBy, brBy, lt, br, sideDepth}
 use Rattle.prediction.specs.Offset.{offsetOk}
 use Rattle.prediction.specs.Block.{levelOf, sampleOf, predicted}
 use Rattle.choice.specs.Record.{Record}

@@ -5,7 +5,7 @@ use mathlib.Core.Path.{_≡_}
 use lib.ListN.{getD}
 use Rattle.arith.specs.Checks.{given}
 use Rattle.arith.specs.Square.{place}
-use Rattle.prediction.specs.Sides.{leftAt, topAt}
+use Rattle.sides.specs.Sides.{leftAt, topAt}
 use Rattle.choice.specs.Record.{LeastRecord}
 use Rattle.choice.specs.Search.{chosen}
 use Rattle.sheet.specs.Grid.{blockHolding}

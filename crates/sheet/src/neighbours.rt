@@ -1,20 +1,14 @@
 // The neighbours of a block, read from the sheet's samples.
 ghost use mathlib.Core.Path.{_≡_};
-ghost use Prim.Native.Nat.{_*_, _≤_, min};
+ghost use Prim.Native.Nat.{_*_, _≤_};
 ghost use lib.ListN.{length, take};
 ghost use Rattle.sheet.specs.Grid.{Inside};
 ghost use Rattle.sheet.specs.Neighbours.{readFrom, aboveCount, leftSource, topSource, sourceAt, neighboursAt};
 use crate::samples::read_at;
+use pattern::lesser;
 
 // The neighbours of the greatest block.
 pub(crate) const NEIGHBOURS: usize = 32;
-
-// The lesser of two numbers.
-pub(crate) fn lesser(a: usize, b: usize) -> usize
-    ensures { λ r. ⌜ r ≡ min a b ⌝ }
-{
-    if a < b { a } else { b }
-}
 
 // The samples present in the top run of a block with a row above: 2n, and n at the sheet's right edge.
 fn above_count(width: usize, n: usize, x: usize) -> usize

@@ -3,12 +3,12 @@ ghost use mathlib.Core.Path.{_≡_};
 ghost use mathlib.Core.Bool.{_&&_, _||_};
 ghost use lib.Dec.{eqb, leb};
 ghost use Prim.Native.Nat.{_<_};
-ghost use Rattle.arith.specs.Checks.{unless};
 ghost use Rattle.sheet.specs.Grid.{sideOk, blocks};
 ghost use Rattle.sheet.specs.State.{sidesOk, stateOf, lengthsOk, blocksOf, newAnswer, openRefusal};
 ghost use Rattle.sheet.specs.Told.{newTold};
 use crate::Made;
 use crate::Sheet;
+use pattern::check;
 
 // Whether a width or a height is a multiple of n, n to 128.
 fn side_ok(n: u32, side: u32) -> bool
@@ -47,13 +47,6 @@ pub fn count_ok(words: usize, count: usize) -> bool
     ensures { λ r. ⌜ r ≡ leb count words && leb count 9999 ⌝ }
 {
     count <= words && count <= 9999
-}
-
-// The number where the check fails, else what the checks after it say.
-pub(crate) fn check(ok: bool, number: u8, rest: u8) -> u8
-    ensures { λ r. ⌜ r ≡ unless ok number rest ⌝ }
-{
-    if ok { rest } else { number }
 }
 
 impl Sheet {

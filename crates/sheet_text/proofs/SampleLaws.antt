@@ -14,7 +14,7 @@ use Rattle.arith.specs.Square.{place}
 use Rattle.arith.proofs.Bools.{both-of}
 use Rattle.arith.proofs.ListLaws.{length-listOf, listOf-at}
 use Rattle.depth_table.specs.Table.{tableOk}
-use Rattle.prediction.specs.Sides.{sideDepth}
+use Rattle.sides.specs.Sides.{sideDepth}
 use Rattle.prediction.specs.Block.{sampleOf, predicted}
 use Rattle.prediction.proofs.BlockLaws.{level-byte}
 use Rattle.choice.specs.Record.{Record, patternOf, predictionOf}

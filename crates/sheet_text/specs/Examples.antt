@@ -11,7 +11,7 @@ use Rattle.arith.specs.Lists.{listOf}
 use Rattle.depth_table.specs.Examples.{sampleTable}
 use Rattle.depth_table.specs.Table.{nearestTo, indexOf}
 use Rattle.pattern.specs.Wedgelet.{candidate, wedgelet, holds, keep, ends, starts, wedgeletList}
-use Rattle.prediction.specs.Sides.{vertEdge, horEdge, ltBy, brBy, lt, br, sideDepth}
+use Rattle.sides.specs.Sides.{vertEdge, horEdge, ltBy, brBy, lt, br, sideDepth}
 use Rattle.prediction.specs.Offset.{offsetOk}
 use Rattle.prediction.specs.Block.{levelOf, sampleOf, predicted}
 use Rattle.sheet.specs.Neighbours.{leftSource, topSource, neighboursAt}

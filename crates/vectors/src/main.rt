@@ -1,6 +1,7 @@
 // Prints the vectors that outside/README.md describes, section by section up to `predictions`, from the answers of the public calls.
 mod blocks;
 mod contours;
+mod depths;
 mod indices;
 mod lists;
 mod output;
@@ -9,7 +10,6 @@ mod pattern_refusals;
 mod predictions;
 mod random;
 mod samples;
-mod sides;
 mod table_refusals;
 mod tables;
 mod words;
@@ -24,6 +24,6 @@ fn main() {
     blocks::lines(8);
     table_refusals::print();
     pattern_refusals::print();
-    sides::print();
+    depths::print();
     predictions::print();
 }

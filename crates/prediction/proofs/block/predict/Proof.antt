@@ -1,16 +1,16 @@
 -- `predict` meets its contract: the answer and the block where a check fails, and where none does.
 use Prim.Native.Nat.{ℕ}
-use mathlib.Core.Path.{_≡_, sym, _∙_}
+use mathlib.Core.Path.{_≡_, sym, ap₂, _∙_}
 use mathlib.Core.Bool.{true, false}
-use native.Mathlib.Omega.{arith}
 use denote.Ref.{now}
+use lib.IntN.{ℤ}
 use lib.ListN.{length}
 use mir.Syntax.{w32}
 use mir.ValLaws.{toZ-ofZ}
 use Rattle.arith.proofs.CheckLaws.{answer-refused, answer-given, lent-refused, lent-given}
 use Rattle.prediction.specs.Answer.{predictRefusal, predictAnswer, predictBlock}
 use Rattle.prediction.proofs.BlockLaws.{level-found, painted-is}
-use Rattle.prediction.proofs.CallLaws.{predict-accepted}
+use Rattle.prediction.proofs.CallLaws.{predict-accepted, sides-accept}
 use borrow.Author.Needs.{needs}
 use Rattle.prediction.proofs.block.predict.Statement.{statement}
 use Rattle.prediction.proofs.block.predict.Tie as tie
@@ -23,15 +23,19 @@ number s =
 
 number-found : (c : tie.After-predict-refusal) → c .predict-refusal .result ≡ number (c .before .before .before .before)
 number-found c =
-    let f = c .before .before .before .before .fits in
-    cc (toZ-ofZ w32 _ (f .off0), toZ-ofZ w32 _ (f .off1))
+    let start = c .before .before .before .before in
+    let a = start .args in
+    c .predict-refusal .ensures
+    ∙ ap₂ (λ (x y : ℤ). predictRefusal (a .n) (a .word) (length (now (a .border))) (now (a .table)) x y (length (now (a .block))))
+    (toZ-ofZ w32 _ (start .fits .off0))
+    (toZ-ofZ w32 _ (start .fits .off1))
 
 -- no check has failed
 none : (c : tie.Else1) → number (c .before .before .before .before .before) ≡ 0
 none c = sym (number-found (c .before)) ∙ c .if1 .left
 
 predict-refusal-requires : tie.Need-predict-refusal-requires
-predict-refusal-requires c κs = search needs
+predict-refusal-requires c κs = tt
 
 returns : tie.Need-returns
 unfolding predictAnswer predictBlock
@@ -40,25 +44,20 @@ returns c = (
   rw (← (number-found (c .before))) (lent-refused _ _ _ (c .if1 .taken)),
 )
 
-depths-of-requires : tie.Need-depths-of-requires
-depths-of-requires c κs =
-    let p = predict-accepted _ _ _ _ _ _ _ (none c) in
-    (omega (arith, p .low), p .high, p .long)
-
-depth-at-requires : tie.Need-depth-at-requires
-depth-at-requires c κs = search needs
+side-depth-requires : tie.Need-side-depth-requires
+side-depth-requires c κs = tt
 
 level-requires : tie.Need-level-requires
-level-requires c κs = search needs
+level-requires c κs = tt
 
-depth-at-requires-2 : tie.Need-depth-at-requires-2
-depth-at-requires-2 c κs = search needs
+side-depth-requires-2 : tie.Need-side-depth-requires-2
+side-depth-requires-2 c κs = tt
 
 level-requires-2 : tie.Need-level-requires-2
-level-requires-2 c κs = search needs
+level-requires-2 c κs = tt
 
 paint-requires : tie.Need-paint-requires
-paint-requires c κs = search needs
+paint-requires c κs = tt
 
 same-length : tie.Need-same-length
 same-length c = search needs
@@ -69,21 +68,21 @@ returns-2 c =
     let drawn = c .before .before in
     let level1 = drawn .before .before in
     let level0 = level1 .before .before in
-    let branch = level0 .before .before .before in
+    let branch = level0 .before .before in
     let start = branch .before .before .before .before .before in
     let a = start .args in
     let s = now (a .border) in
     let t = now (a .table) in
-    let d = level0 .before .before .depths-of .ensures in
+    let p = predict-accepted _ _ _ _ _ _ _ (none branch) in
+    let found = sides-accept s p in
     let e0 =
-    level-found (a .n) (a .word) s t false (level0 .level .ensures) (level0 .before .depth-at .ensures) (d .0) (d .1)
+    level-found (a .n) (a .word) s t false found (level0 .level .ensures) (level0 .before .side-depth .ensures)
     (toZ-ofZ w32 _ (start .fits .off0))
     in
     let e1 =
-    level-found (a .n) (a .word) s t true (level1 .level2 .ensures) (level1 .before .depth-at2 .ensures) (d .0) (d .1)
+    level-found (a .n) (a .word) s t true found (level1 .level2 .ensures) (level1 .before .side-depth2 .ensures)
     (toZ-ofZ w32 _ (start .fits .off1))
-    in
-    let p = predict-accepted _ _ _ _ _ _ _ (none branch) in (
+    in (
       answer-given _ _ (none branch),
       drawn .paint .ensures ∙ painted-is (a .n) (a .word) s t (a .off0) (a .off1) e0 e1 (p .full) ∙ lent-given _ _ _ (none branch),
     )
@@ -94,10 +93,9 @@ predict-spec =
     (tie.spec
     predict-refusal-requires
     returns
-    depths-of-requires
-    depth-at-requires
+    side-depth-requires
     level-requires
-    depth-at-requires-2
+    side-depth-requires-2
     level-requires-2
     paint-requires
     same-length

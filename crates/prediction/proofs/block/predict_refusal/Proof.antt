@@ -10,7 +10,7 @@ use Rattle.prediction.proofs.block.predict_refusal.Statement.{statement
 use Rattle.prediction.proofs.block.predict_refusal.Tie as tie
 
 size-ok-requires : tie.Need-size-ok-requires
-size-ok-requires c κs = search needs
+size-ok-requires c κs = tt
 
 returns : tie.Need-returns
 unfolding predictRefusal
@@ -21,31 +21,31 @@ lengths-ok-requires c κs =
     size-bounds (c .before .before .before .args .n) (sym (c .before .size-ok .ensures) ∙ not-false _ (c .if1 .left)) .1
 
 is-table-requires : tie.Need-is-table-requires
-is-table-requires c κs = search needs
+is-table-requires c κs = tt
 
 word-ok-requires : tie.Need-word-ok-requires
-word-ok-requires c κs = search needs
+word-ok-requires c κs = tt
 
 offset-ok-requires : tie.Need-offset-ok-requires
-offset-ok-requires c κs = search needs
+offset-ok-requires c κs = tt
 
 offset-ok-requires-2 : tie.Need-offset-ok-requires-2
-offset-ok-requires-2 c κs = search needs
+offset-ok-requires-2 c κs = tt
 
 check-requires : tie.Need-check-requires
-check-requires c κs = search needs
+check-requires c κs = tt
 
 check-requires-2 : tie.Need-check-requires-2
-check-requires-2 c κs = search needs
+check-requires-2 c κs = tt
 
 check-requires-3 : tie.Need-check-requires-3
-check-requires-3 c κs = search needs
+check-requires-3 c κs = tt
 
 check-requires-4 : tie.Need-check-requires-4
-check-requires-4 c κs = search needs
+check-requires-4 c κs = tt
 
 check-requires-5 : tie.Need-check-requires-5
-check-requires-5 c κs = search needs
+check-requires-5 c κs = tt
 
 returns-2 : tie.Need-returns-2
 unfolding predictRefusal

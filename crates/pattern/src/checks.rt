@@ -1,0 +1,17 @@
+// Checks in order, each with the number of its refusal, and the lesser of two numbers.
+ghost use mathlib.Core.Path.{_≡_};
+ghost use Prim.Native.Nat.{min};
+ghost use Rattle.arith.specs.Checks.{unless};
+
+// The number where the check fails, else what the checks after it say.
+pub fn check(ok: bool, number: u8, rest: u8) -> u8
+    ensures { λ r. ⌜ r ≡ unless ok number rest ⌝ }
+{
+    if ok { rest } else { number }
+}
+
+pub fn lesser(a: usize, b: usize) -> usize
+    ensures { λ r. ⌜ r ≡ min a b ⌝ }
+{
+    if a < b { a } else { b }
+}

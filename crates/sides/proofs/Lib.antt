@@ -1,0 +1,4 @@
+-- Laws of side depths.
+pub mod SideLaws
+pub mod TransposedLaws
+pub mod CallLaws

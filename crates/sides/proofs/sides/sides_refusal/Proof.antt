@@ -1,0 +1,52 @@
+-- `sides_refusal` meets its contract, check by check.
+use mathlib.Core.Path.{sym, _∙_}
+use native.Mathlib.Omega.{arith}
+use borrow.Author.Tests.{not-true, not-false, eq-eqb, ne-eqb}
+use Rattle.pattern.proofs.SizeLaws.{size-bounds}
+use Rattle.sides.specs.Answer.{sidesRefusal}
+use borrow.Author.Needs.{needs}
+use Rattle.sides.proofs.sides.sides_refusal.Statement.{statement}
+use Rattle.sides.proofs.sides.sides_refusal.Tie as tie
+
+size-ok-requires : tie.Need-size-ok-requires
+size-ok-requires c κs = search needs
+
+returns : tie.Need-returns
+unfolding sidesRefusal
+returns c = rw (sym (c .before .size-ok .ensures) ∙ not-true _ (c .if1 .taken))
+
+mul-if2 : tie.Need-mul-if2
+mul-if2 c = omega (arith, size-bounds (c .before .before .before .args .n) (sym (c .before .size-ok .ensures) ∙ not-false _ (c .if1 .left)))
+
+returns-2 : tie.Need-returns-2
+unfolding sidesRefusal
+returns-2 c =
+    rw (sym (c .before .before .size-ok .ensures) ∙ not-false _ (c .before .if1 .left), ne-eqb _ _ (c .if2 .taken))
+
+word-ok-requires : tie.Need-word-ok-requires
+word-ok-requires c κs = search needs
+
+returns-3 : tie.Need-returns-3
+unfolding sidesRefusal
+returns-3 c =
+    let sized = c .before .before .before in
+    rw (
+      sym (sized .before .size-ok .ensures) ∙ not-false _ (sized .if1 .left),
+      eq-eqb _ _ (c .before .before .if2 .left),
+      sym (c .before .word-ok .ensures) ∙ not-true _ (c .if3 .taken),
+    )
+
+returns-4 : tie.Need-returns-4
+unfolding sidesRefusal
+returns-4 c =
+    let sized = c .before .before .before in
+    rw (
+      sym (sized .before .size-ok .ensures) ∙ not-false _ (sized .if1 .left),
+      eq-eqb _ _ (c .before .before .if2 .left),
+      sym (c .before .word-ok .ensures) ∙ not-false _ (c .if3 .left),
+    )
+
+pub sides-refusal-spec : {M : Type 1} → statement M
+sides-refusal-spec =
+    tie.close
+    (tie.spec size-ok-requires returns mul-if2 returns-2 word-ok-requires returns-3 returns-4)

@@ -1,0 +1,15 @@
+-- Transposed neighbours (document 01: the turned border), and the condition under which transposing keeps the side depths. Assumes nothing.
+use Prim.Native.Nat.{ℕ, _-_, _*_}
+use mathlib.Core.Path.{_≡_}
+use mathlib.Core.List.{List, _++_}
+use mathlib.Core.Logic.{_⊎_}
+use lib.ListN.{take, drop}
+use Rattle.sides.specs.Sides.{leftAt, topAt, leftChange, topChange}
+
+-- the left run is the old top run, T0 first, and the top run the old left run
+unfoldable pub transposedNeighbours : ℕ → List ℕ → List ℕ
+transposedNeighbours n s = drop (2 * n) s ++ take (2 * n) s
+
+-- the runs differ from end to end by unequal amounts, or end on equal samples
+abbrev pub EndsDecide : ℕ → List ℕ → Type 0
+EndsDecide n s = (leftChange n s ≡ topChange n s → ⊥) ⊎ (leftAt s (2 * n - 1) ≡ topAt n s (2 * n - 1))
