@@ -3,6 +3,7 @@ use Prim.Native.Nat.{ℕ, suc, zero, _+_, _*_, _≤_, _<_}
 use mathlib.Core.Path.{_≡_, refl, sym, _∙_, ap, ap₂, subst}
 use mathlib.Core.Bool.{true}
 use mathlib.Core.List.{List, _++_}
+use native.Mathlib.Nat.{mul-le-mul}
 use native.Mathlib.Omega.{arith}
 use borrow.Author.Tests.{lt-ltb}
 use lib.ListN.{length, getD, length-append}
@@ -15,40 +16,37 @@ use Rattle.record_text.specs.Lines.{texts}
 use Rattle.record_text.specs.Put.{Put, Written, printedIf, numberPrintable}
 use Rattle.record_text.proofs.LengthLaws.{number-short, number-le}
 use Rattle.record_text.proofs.LinesLaws.{texts-more, texts-length}
-use Rattle.record_text.proofs.PutLaws.{put-written}
-use Rattle.record_text.proofs.WriteSteps.{written-length, written-then, room-first, room-next}
-use Rattle.record_text.proofs.PutLaws.{printed-written}
+use Rattle.record_text.proofs.PutLaws.{put-written, printed-written}
+use Rattle.record_text.proofs.WriteSteps.{written-length, written-then}
 use Rattle.sheet_text.specs.Printed.{sidesTitle, refusalTitle, pairText, byteAfter, sampleText, rowsText, sidesText, sheetText, refusalText}
 
 -- ---- two numbers on a line
 
 pub pair-written :
-    {l₀ l₁ l₂ : List ℕ} (c₀ c₁ c₂ : Cursor) (a b : ℕ) → a < numeralEnd → b < numeralEnd → c₀ .at + length (pairText a b) ≤ length l₀
+    {l₀ l₁ l₂ : List ℕ} (c₀ c₁ c₂ : Cursor) (a b : ℕ) → a < numeralEnd → b < numeralEnd → c₀ .at + 12 ≤ length l₀
     → Put l₀ l₁ c₀ (printedIf (numberPrintable a) (numberText 32 a)) c₁ → Put l₁ l₂ c₁ (printedIf (numberPrintable b) (numberText 10 b)) c₂
     → Written l₀ l₂ (c₀ .at) (pairText a b) (c₂ .at)
-pair-written {l₀} {l₁} {l₂} c₀ c₁ c₂ a b ha hb room p q =
-    let w = printed-written {b = numberPrintable a} {from = c₀} {next = c₁} (lt-ltb a numeralEnd ha) (room-first (c₀ .at) (length l₀) (numberText 32 a) (numberText 10 b) room) p in
-    let v = printed-written {b = numberPrintable b} {from = c₁} {next = c₂} (lt-ltb b numeralEnd hb) (room-next (numberText 10 b) room w) q in
+pair-written c₀ c₁ c₂ a b ha hb room p q =
+    let w = printed-written {b = numberPrintable a} {from = c₀} {next = c₁} (lt-ltb a numeralEnd ha) (omega (arith, number-le 32 a)) p in
+    let v =
+    printed-written {b = numberPrintable b} {from = c₁} {next = c₂} (lt-ltb b numeralEnd hb)
+    (omega (arith, number-le 32 a, number-le 10 b, w .place, written-length w)) q in
     written-then w v
 
 -- a title at the start, and room for the pair after it
-module _ (t : List ℕ) (a b : ℕ) {l₀ l₁ : List ℕ} {c : Cursor} (room : length (t ++ pairText a b) ≤ length l₀) (title : Put l₀ l₁ (record { at = 0 }) t c) where
+module _ (t l₀ : List ℕ) {l₁ : List ℕ} {c : Cursor} (room : length t + 12 ≤ length l₀) (title : Put l₀ l₁ (record { at = 0 }) t c) where
   pub title-written : Written l₀ l₁ 0 t (c .at)
-  title-written = put-written {from = record { at = 0 }} {next = c} (omega (arith, length-append t (pairText a b))) title
+  title-written = put-written {from = record { at = 0 }} {next = c} (omega arith) title
 
-  pub title-room : c .at + length (pairText a b) ≤ length l₁
-  title-room = room-next (pairText a b) (omega arith) title-written
+  pub title-room : c .at + 12 ≤ length l₁
+  title-room = omega (arith, title-written .place, written-length title-written)
 
 -- ---- a refusal
 
--- its text is short, and is its title and then its two numbers
+-- its text is short: its title, and then its two numbers
 pub refusal-short : (number line : ℕ) → length (refusalText number line) ≤ 25
 unfolding refusalText refusalTitle
 refusal-short number line = simp length-append (omega (arith, number-le 32 number, number-le 10 line))
-
-pub refusal-room : (number line : ℕ) {n : ℕ} → length (refusalText number line) ≤ n → length (refusalTitle ++ pairText number line) ≤ n
-unfolding refusalText
-refusal-room number line h = h
 
 pub refusal-written :
     {l₀ l₁ l₂ : List ℕ} {p q : ℕ} (number line : ℕ) → Written l₀ l₁ 0 refusalTitle p → Written l₁ l₂ p (pairText number line) q → Written l₀ l₂ 0 (refusalText number line) q
@@ -63,12 +61,8 @@ module _ (width height : ℕ) (w : width ≤ 128) (h : height ≤ 128) where
   unfolding sidesText sidesTitle depthTitle
   sides-short = simp length-append (omega (arith, number-short 32 2 width (omega arith), number-short 10 2 height (omega arith)))
 
-  pub sides-room : {n : ℕ} → 27 ≤ n → length (sidesTitle ++ pairText width height) ≤ n
-  unfolding sidesText
-  sides-room r = omega (arith, sides-short, length-append sidesTitle (pairText width height ++ depthTitle), length-append (pairText width height) depthTitle, length-append sidesTitle (pairText width height))
-
   pub sides-written :
-      {l₀ l₁ l₂ l₃ : List ℕ} (c₁ c₂ c₃ : Cursor) → 27 ≤ length l₀ → Written l₀ l₁ 0 sidesTitle (c₁ .at)
+      {l₀ l₁ l₂ l₃ : List ℕ} (c₁ c₂ c₃ : Cursor) → 31 ≤ length l₀ → Written l₀ l₁ 0 sidesTitle (c₁ .at)
       → Written l₁ l₂ (c₁ .at) (pairText width height) (c₂ .at) → Put l₂ l₃ c₂ depthTitle c₃ → Written l₀ l₃ 0 (sidesText width height) (c₃ .at)
   unfolding sidesText
   sides-written c₁ c₂ c₃ r a b p =
@@ -88,8 +82,11 @@ module _ (width height : ℕ) (w : width ≤ 128) (h : height ≤ 128) where
 
   -- room for the rows after them
   pub rows-room :
-      {l₀ l₁ : List ℕ} {p : ℕ} → 27 + 4 * (width * height) ≤ length l₀ → Written l₀ l₁ 0 (sidesText width height) p → p + 4 * (width * height) ≤ length l₁
-  rows-room r a = omega (arith, sides-short, a .place, written-length a)
+      {l₀ l₁ : List ℕ} {p : ℕ} → 27 + 4 * 16384 ≤ length l₀ → Written l₀ l₁ 0 (sidesText width height) p
+      → (width * height ≤ 16384) × (p + 4 * (width * height) ≤ length l₁)
+  rows-room r a =
+      let m : width * height ≤ 16384 = mul-le-mul {n₂ = 128} {m₂ = 128} w h in
+      (m, omega (arith, sides-short, a .place, written-length a))
 
 -- the whole text of a sheet
 pub sheet-written :

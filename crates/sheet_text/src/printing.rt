@@ -5,6 +5,7 @@ ghost use lib.ListN.{length};
 ghost use Rattle.record_text.specs.Numeral.{numeralEnd};
 ghost use Rattle.record_text.specs.Put.{Written};
 ghost use Rattle.sheet_text.specs.Printed.{pairText, byteAfter, sidesText, rowsText, sheetText, refusalText};
+ghost use Rattle.sheet_text.specs.Showing.{showSpace};
 use record_text::Cursor;
 use record_text::put_depth_title;
 use record_text::put_number;
@@ -30,8 +31,7 @@ fn byte_after(width: usize, i: usize) -> u8
 
 // Two numbers on a line; the place after it.
 fn put_pair(out: &mut [u8], from: Cursor, a: u32, b: u32) -> Cursor
-    requires { ⌜ (a < numeralEnd) × (b < numeralEnd) ⌝ }
-    requires { ⌜ from .at + length (pairText a b) ≤ length (now out) ⌝ }
+    requires { ⌜ (a < numeralEnd) × (b < numeralEnd) × (from .at + 12 ≤ length (now out)) ⌝ }
     ensures { λ r. ⌜ Written (now (out .entry)) (now (out .exit)) (from .at) (pairText a b) (r .at) ⌝ }
 {
     let next = put_number(out, from, a, 32);
@@ -40,7 +40,7 @@ fn put_pair(out: &mut [u8], from: Cursor, a: u32, b: u32) -> Cursor
 
 // The lines before the sample rows; the place after them.
 fn put_sides(out: &mut [u8], width: u32, height: u32) -> Cursor
-    requires { ⌜ (width ≤ 128) × (height ≤ 128) × (27 ≤ length (now out)) ⌝ }
+    requires { ⌜ (width ≤ 128) × (height ≤ 128) × (31 ≤ length (now out)) ⌝ }
     ensures { λ r. ⌜ Written (now (out .entry)) (now (out .exit)) 0 (sidesText width height) (r .at) ⌝ }
 {
     let title = put_text(out, Cursor { at: 0 }, b"width height\n");
@@ -66,7 +66,7 @@ fn put_rows(out: &mut [u8], from: Cursor, width: usize, height: usize, samples: 
 // The text of a sheet from the start of `out`; its length.
 pub(crate) fn put_sheet(out: &mut [u8], width: u32, height: u32, samples: &[u8]) -> usize
     requires { ⌜ (0 < width) × (width ≤ 128) × (height ≤ 128) × (width * height ≤ length (now samples)) ⌝ }
-    requires { ⌜ 27 + 4 * (width * height) ≤ length (now out) ⌝ }
+    requires { ⌜ showSpace ≤ length (now out) ⌝ }
     ensures { λ r. ⌜ Written (now (out .entry)) (now (out .exit)) 0 (sheetText width height (now (samples .entry))) r ⌝ }
 {
     let sides = put_sides(out, width, height);
@@ -76,7 +76,7 @@ pub(crate) fn put_sheet(out: &mut [u8], width: u32, height: u32, samples: &[u8])
 
 // The text of a refusal from the start of `out`; its length.
 pub(crate) fn put_refusal(out: &mut [u8], number: u8, line: u32) -> usize
-    requires { ⌜ (line < numeralEnd) × (length (refusalText number line) ≤ length (now out)) ⌝ }
+    requires { ⌜ (line < numeralEnd) × (25 ≤ length (now out)) ⌝ }
     ensures { λ r. ⌜ Written (now (out .entry)) (now (out .exit)) 0 (refusalText number line) r ⌝ }
 {
     let title = put_text(out, Cursor { at: 0 }, b"refusal line\n");

@@ -18,7 +18,7 @@ returns c =
     let s = c .before .before .before .before .before .before .before .before .before in
     let p = c .before .before .before .before .before .before .put-number in
     let q = c .before .before .put-number2 in
-    pair-written (s .args .from) (p .result) (q .result) (s .args .a) (s .args .b) (s .pre .0 .0) (s .pre .0 .1) (s .pre .1) (p .ensures) (q .ensures)
+    pair-written (s .args .from) (p .result) (q .result) (s .args .a) (s .args .b) (s .pre .0) (s .pre .1) (s .pre .2) (p .ensures) (q .ensures)
 
 pub put-pair-spec : {M : Type 1} → statement M
 put-pair-spec = tie.close (tie.spec put-number-requires put-number-requires-2 same-length returns)

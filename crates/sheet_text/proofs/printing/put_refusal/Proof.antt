@@ -5,7 +5,7 @@ use mathlib.Core.Path.{subst}
 use Prim.Native.Nat.{ℕ}
 use Rattle.record_text.specs.Put.{Written}
 use Rattle.sheet_text.specs.Printed.{refusalTitle, pairText}
-use Rattle.sheet_text.proofs.PrintLaws.{title-written, title-room, refusal-room, refusal-written}
+use Rattle.sheet_text.proofs.PrintLaws.{title-written, title-room, refusal-written}
 use Rattle.sheet_text.proofs.printing.put_refusal.Statement.{statement}
 use Rattle.sheet_text.proofs.printing.put_refusal.Tie as tie
 
@@ -22,10 +22,8 @@ put-pair-requires : tie.Need-put-pair-requires
 unfolding refusalTitle
 put-pair-requires c κs =
     let s = c .before .before .before .before .before .before .before .before in
-    let a = s .args in
     let e = c .wide .ensures in
-    rw e
-    ((omega arith, s .pre .0), title-room refusalTitle (a .number) (a .line) (refusal-room (a .number) (a .line) (s .pre .1)) (c .before .before .before .before .put-text .ensures))
+    (omega (arith, s .pre), omega (arith, s .pre), title-room refusalTitle (s .args .out .now) (omega (arith, s .pre)) (c .before .before .before .before .put-text .ensures))
 
 same-length : tie.Need-same-length
 same-length c = search needs
@@ -37,7 +35,7 @@ returns c =
     let t = c .before .before .before .before .before .before .before .put-text in
     let q = c .before .before .put-pair in
     let a = s .args in
-    refusal-written (a .number) (a .line) (title-written refusalTitle (a .number) (a .line) (refusal-room (a .number) (a .line) (s .pre .1)) (t .ensures))
+    refusal-written (a .number) (a .line) (title-written refusalTitle (a .out .now) (omega (arith, s .pre)) (t .ensures))
     (subst (λ (v : ℕ). Written (t .last .0) (q .last .0) (t .result .at) (pairText v (a .line)) (q .result .at)) (c .before .before .before .wide .ensures) (q .ensures))
 
 pub put-refusal-spec : {M : Type 1} → statement M

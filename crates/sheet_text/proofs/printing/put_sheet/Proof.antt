@@ -1,6 +1,5 @@
 -- `put_sheet` meets its contract: the sample rows after the lines before them.
 use borrow.Author.Needs.{needs}
-use native.Mathlib.Nat.{mul-le-mul}
 use Rattle.sheet_text.proofs.PrintLaws.{rows-room, sheet-written}
 use Rattle.sheet_text.proofs.printing.put_sheet.Statement.{statement}
 use Rattle.sheet_text.proofs.printing.put_sheet.Tie as tie
@@ -13,7 +12,8 @@ put-rows-requires c κs =
     let s = c .before .before .before .before .before .before .before in
     let a = s .args in
     let p = s .pre .0 in
-    ((p .0, mul-le-mul {n₂ = 128} {m₂ = 128} (p .1) (p .2), p .3), rows-room (a .width) (a .height) (p .1) (p .2) (s .pre .1) (c .before .before .before .put-sides .ensures))
+    let r = rows-room (a .width) (a .height) (p .1) (p .2) (s .pre .1) (c .before .before .before .put-sides .ensures) in
+    ((p .0, r .0, p .3), r .1)
 
 same-length : tie.Need-same-length
 same-length c = search needs

@@ -2,7 +2,7 @@
 use borrow.Author.Needs.{needs}
 use native.Mathlib.Omega.{arith}
 use Rattle.sheet_text.specs.Printed.{sidesTitle}
-use Rattle.sheet_text.proofs.PrintLaws.{title-written, title-room, sides-room, sides-written}
+use Rattle.sheet_text.proofs.PrintLaws.{title-written, title-room, sides-written}
 use Rattle.sheet_text.proofs.printing.put_sides.Statement.{statement}
 use Rattle.sheet_text.proofs.printing.put_sides.Tie as tie
 
@@ -16,8 +16,7 @@ put-pair-requires : tie.Need-put-pair-requires
 unfolding sidesTitle
 put-pair-requires c κs =
     let s = c .before .before .before .before .before .before .before in
-    let a = s .args in
-    ((omega (arith, s .pre), omega (arith, s .pre)), title-room sidesTitle (a .width) (a .height) (sides-room (a .width) (a .height) (s .pre .0) (s .pre .1) (s .pre .2)) (c .before .before .before .put-text .ensures))
+    (omega (arith, s .pre), omega (arith, s .pre), title-room sidesTitle (s .args .out .now) (omega (arith, s .pre)) (c .before .before .before .put-text .ensures))
 
 put-depth-title-requires : tie.Need-put-depth-title-requires
 put-depth-title-requires c κs = search needs
@@ -34,7 +33,7 @@ returns c =
     let s = c .before .before .before .before .before .before .before .before .before .before .before .before .before .before in
     let a = s .args in
     sides-written (a .width) (a .height) (s .pre .0) (s .pre .1) (t .result) (q .result) (d .result) (s .pre .2)
-    (title-written sidesTitle (a .width) (a .height) (sides-room (a .width) (a .height) (s .pre .0) (s .pre .1) (s .pre .2)) (t .ensures)) (q .ensures) (d .ensures)
+    (title-written sidesTitle (a .out .now) (omega (arith, s .pre)) (t .ensures)) (q .ensures) (d .ensures)
 
 pub put-sides-spec : {M : Type 1} → statement M
 put-sides-spec =
