@@ -103,8 +103,9 @@ pub fn record(file: &mut Vec<u8>, case: &Case, random: &mut Random) {
             replace(file, line, 1, &entry.to_string());
         }
         _ => {
-            let offset =
-                random.pick(&["255", "-255", "256", "-256", "257", "1000", "-1000", "99999", "-99999"]);
+            let far = random.pick(&["255", "-255", "256", "-256", "257", "1000", "99999", "-99999"]);
+            let formless = random.pick(&["-0", "-0", "00", "-00", "01", "-01", "-", "+1", "-100000"]);
+            let offset = if random.seldom(2) { formless } else { far };
             replace(file, line, 2 + random.below(2), offset);
         }
     }

@@ -110,7 +110,8 @@ fn run(seed: u64, files: u64, show: &Option<(Program, u64)>, tally: &mut Tally) 
 /// The program and how many files it is given, from the words of the command.
 fn program(words: &[String]) -> Option<(Program, u64)> {
     let input = std::env::temp_dir().join(format!("shown-{}", std::process::id()));
-    Some((Program { path: PathBuf::from(words.get(3)?), input }, words.get(2)?.parse().ok()?))
+    let path = PathBuf::from(".").join(words.get(3)?);
+    Some((Program { path, input }, words.get(2)?.parse().ok()?))
 }
 
 fn main() -> ExitCode {
