@@ -92,9 +92,11 @@ impl Tally {
     }
 
     fn print_counts(title: &str, counts: &BTreeMap<&'static str, Count>) {
-        println!("{title}");
-        for (name, count) in counts {
-            println!("  {name:<28}{:>7}{:>7} refused", count.made, count.refused);
+        println!("{title}, made and refused, alone or with another:");
+        let cells =
+            counts.iter().map(|(name, count)| format!("  {name:<27}{:>5}{:>5}", count.made, count.refused));
+        for row in cells.collect::<Vec<String>>().chunks(3) {
+            println!("{}", row.concat());
         }
     }
 
@@ -115,13 +117,13 @@ impl Tally {
         let writes: Vec<String> =
             OF_WRITING.iter().map(|n| format!("{n}: {}", self.writes.get(n).unwrap_or(&0))).collect();
         println!("writing, by number (0: written): {}", writes.join(", "));
-        Tally::print_counts("damage to files, alone or with another:", &self.damages);
-        Tally::print_counts("faults in writing, alone or with another:", &self.faults);
+        Tally::print_counts("damage to files", &self.damages);
+        Tally::print_counts("faults in writing", &self.faults);
         println!("show ran on {} files, {} of them pictures", self.shown, self.pictures);
     }
 
     /// What is missing or must not be, in words.
-    pub fn faults(&self, damages: usize, faults: usize, least_files: u64, least_shown: u64) -> Vec<String> {
+    pub fn missing(&self, damages: usize, faults: usize, least_files: u64, least_shown: u64) -> Vec<String> {
         let mut found = Vec::new();
         for (number, place) in OF_READING {
             if !self.reads.contains_key(&(number, place)) {

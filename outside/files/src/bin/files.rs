@@ -114,34 +114,49 @@ fn program(words: &[String]) -> Option<(Program, u64)> {
     Some((Program { path, input }, words.get(2)?.parse().ok()?))
 }
 
+/// The run that the words of the command ask for, with its counts; the answer is whether all is well.
+fn judged(seed: u64, files: u64, show: &Option<(Program, u64)>) -> bool {
+    let mut tally = Tally::default();
+    println!("seed {seed}");
+    let done = run(seed, files, show, &mut tally);
+    match (done, show) {
+        (Err(what), _) => {
+            println!("{what}");
+            false
+        }
+        (Ok(()), None) => {
+            println!("{} files and as many writes compared", tally.files);
+            true
+        }
+        (Ok(()), Some(_)) => {
+            tally.print();
+            let missing = tally.missing(DAMAGES.len(), FAULTS.len(), LEAST_FILES, LEAST_SHOWN);
+            missing.iter().for_each(|what| println!("files: {what}"));
+            missing.is_empty()
+        }
+    }
+}
+
 fn main() -> ExitCode {
     let words: Vec<String> = std::env::args().skip(1).collect();
     let show = program(&words);
-    let numbers =
-        (words.first().and_then(|word| word.parse().ok()), words.get(1).and_then(|word| word.parse().ok()));
-    let (Some(seed), Some(files), 2 | 4) = (numbers.0, numbers.1, words.len()) else {
-        eprintln!("usage: files SEED FILES [SHOWN PROGRAM]");
-        return ExitCode::from(2);
+    let number = |at: usize| words.get(at).and_then(|word| word.parse().ok());
+    let (Some(seed), Some(files)) = (number(0), number(1)) else {
+        return usage();
     };
-    if show.is_none() {
-        without_guards();
+    match (words.len(), &show) {
+        (2, None) => without_guards(),
+        (4, Some(_)) => {}
+        _ => return usage(),
     }
-    let mut tally = Tally::default();
-    println!("seed {seed}");
-    let done = run(seed, files, &show, &mut tally);
+    let well = judged(seed, files, &show);
     if let Some((program, _)) = &show {
         let _ = std::fs::remove_file(&program.input);
     }
-    if let Err(what) = done {
-        println!("{what}");
-        return ExitCode::FAILURE;
-    }
-    if show.is_none() {
-        println!("{} files and as many writes compared", tally.files);
-        return ExitCode::SUCCESS;
-    }
-    tally.print();
-    let missing = tally.faults(DAMAGES.len(), FAULTS.len(), LEAST_FILES, LEAST_SHOWN);
-    missing.iter().for_each(|what| println!("files: {what}"));
-    ExitCode::from(!missing.is_empty() as u8)
+    ExitCode::from(!well as u8)
+}
+
+fn usage() -> ExitCode {
+    eprintln!("usage: files SEED FILES [SHOWN PROGRAM]");
+    ExitCode::from(2)
 }
