@@ -107,9 +107,9 @@ fn run(seed: u64, files: u64, show: &Option<(Program, u64)>, tally: &mut Tally) 
     Ok(())
 }
 
-/// The program and how many files it is given, from the words of the command.
+/// The program and how many files it is given, from the words of the command; its input stands beside this program.
 fn program(words: &[String]) -> Option<(Program, u64)> {
-    let input = std::env::temp_dir().join(format!("shown-{}", std::process::id()));
+    let input = std::env::current_exe().ok()?.with_file_name(format!("shown-{}", std::process::id()));
     let path = PathBuf::from(".").join(words.get(3)?);
     Some((Program { path, input }, words.get(2)?.parse().ok()?))
 }
