@@ -22,6 +22,9 @@ const RECORDS_LINE: &str = "kind entry off0 off1";
 pub const SAMPLES_LENT: usize = 16384;
 pub const RECORDS_LENT: usize = 1024;
 
+/// The bytes that `show_text` is lent at least: three lines of 27 bytes, and at most 4 bytes a sample.
+pub const TEXT_LENT: usize = 27 + 4 * SAMPLES_LENT;
+
 /// The text of a finished sheet.
 fn text(sheet: &Sheet, table: &[u8], records: &[Record]) -> String {
     let Sheet { n, width, height, .. } = sheet;
@@ -240,13 +243,13 @@ pub fn show(bytes: &[u8]) -> String {
     }
 }
 
-/// Writes what `show` prints into the lent bytes and answers its length; refused as 2 where they are
-/// fewer.
+/// Writes what `show` prints into the lent bytes and answers its length; bytes past it keep their content.
+/// Refused as 2 where they are fewer than the longest text that `show` can print, whatever the file.
 pub fn show_text(bytes: &[u8], lent: &mut [u8]) -> Result<usize, u32> {
-    let text = show(bytes);
-    if lent.len() < text.len() {
+    if lent.len() < TEXT_LENT {
         return Err(LENGTH);
     }
+    let text = show(bytes);
     lent[..text.len()].copy_from_slice(text.as_bytes());
     Ok(text.len())
 }

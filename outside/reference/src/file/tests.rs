@@ -55,12 +55,27 @@ fn the_sample_file() {
 }
 
 #[test]
-fn show_needs_space_for_its_text() {
-    let mut lent = vec![7; SHOWN.len() + 1];
-    assert_eq!(show_text(SAMPLE.as_bytes(), &mut lent[..SHOWN.len() - 1]), Err(2));
-    assert!(lent.iter().all(|&byte| byte == 7));
-    assert_eq!(show_text(SAMPLE.as_bytes(), &mut lent), Ok(SHOWN.len()));
-    assert_eq!((&lent[..SHOWN.len()], lent[SHOWN.len()]), (SHOWN.as_bytes(), 7));
+fn show_needs_space_for_the_longest_text() {
+    assert_eq!(TEXT_LENT, 65563);
+    for file in [SAMPLE.as_bytes(), b"", &[255; 9]] {
+        let mut lent = vec![7; TEXT_LENT + 1];
+        assert_eq!(show_text(file, &mut lent[..TEXT_LENT - 1]), Err(2));
+        assert!(lent.iter().all(|&byte| byte == 7));
+        let text = show(file);
+        for length in [TEXT_LENT, TEXT_LENT + 1] {
+            let mut lent = vec![7; length];
+            assert_eq!(show_text(file, &mut lent), Ok(text.len()));
+            assert_eq!(&lent[..text.len()], text.as_bytes());
+            assert!(lent[text.len()..].iter().all(|&byte| byte == 7));
+        }
+    }
+}
+
+#[test]
+fn the_longest_text_fills_the_space() {
+    let front = "size width height values\n4 128 128 1\ndepth\n255\nkind entry off0 off1\n";
+    let file = front.to_string() + &"0 0 0 0\n".repeat(RECORDS_LENT);
+    assert_eq!(show(file.as_bytes()).len(), TEXT_LENT);
 }
 
 #[test]

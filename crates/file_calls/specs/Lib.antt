@@ -1,0 +1,2 @@
+-- What the calls return.
+pub mod Structs

@@ -1,0 +1,116 @@
+// The record file's calls for the outside tests and the benchmark: the tests link libfile_calls.a. They are not part of
+// include/depth_bench.h.
+ghost use mathlib.Core.Path.{_≡_};
+ghost use lib.ListN.{length};
+ghost use Rattle.sheet.specs.State.{stateOf};
+ghost use Rattle.sheet.specs.Compose.{recordsLent};
+ghost use Rattle.record_file.specs.Text.{recordAt};
+ghost use Rattle.record_file.specs.Writing.{sourceOf, writeAnswer, writeAfter};
+ghost use Rattle.record_file.specs.Reading.{aidsOf, readFile};
+ghost use Rattle.record_read.specs.Stored.{Slices};
+ghost use Rattle.record_read.specs.Back.{fileBack, samplesBack, recordsBack, leaving};
+ghost use Rattle.file_calls.specs.Structs.{fileReadOf, fileWrittenOf};
+use record_write::Wrote;
+use sheet::Sheet;
+
+// What reading answers: the number of a refusal (0 for none) and its line; where there is none, the finished state, the table and its count.
+#[repr(C)]
+pub struct FileRead {
+    pub refusal: u32,
+    pub line: u32,
+    pub n: u32,
+    pub width: u32,
+    pub height: u32,
+    pub placed: u32,
+    pub values: u32,
+    pub table: [u8; 256],
+}
+
+// What writing answers: the length of the text, or the number of the refusal beside 0.
+#[repr(C)]
+pub struct FileWritten {
+    pub refusal: u32,
+    pub length: usize,
+}
+
+fn wide(number: u8) -> u32
+    ensures { λ r. ⌜ r ≡ number ⌝ }
+{
+    number as u32
+}
+
+// Reads a file into the lent slices, as `record_read::read` does.
+#[no_mangle]
+pub extern "C" fn file_calls_read(
+    bytes: &[u8],
+    list: &[u64],
+    count: usize,
+    texture: &[u8],
+    samples: &mut [u8],
+    kinds: &mut [u32],
+    entries: &mut [u32],
+    offs0: &mut [i32],
+    offs1: &mut [i32],
+) -> FileRead
+    ensures answered { λ r. ⌜ r ≡ fileReadOf (fileBack (readFile (aidsOf (now (list .entry)) count (now (texture .entry))) (length (now (samples .entry))) (recordsLent (length (now (kinds .entry))) (length (now (entries .entry))) (length (now (offs0 .entry))) (length (now (offs1 .entry)))) (now (bytes .entry)))) ⌝ }
+    ensures kept { λ r. ⌜ _≡_ {A = Slices} (now (kinds .exit), (now (entries .exit), (now (offs0 .exit), now (offs1 .exit)))) (leaving (readFile (aidsOf (now (list .entry)) count (now (texture .entry))) (length (now (samples .entry))) (recordsLent (length (now (kinds .entry))) (length (now (entries .entry))) (length (now (offs0 .entry))) (length (now (offs1 .entry)))) (now (bytes .entry))) (λ F. recordsBack F (now (kinds .entry), (now (entries .entry), (now (offs0 .entry), now (offs1 .entry))))) (now (kinds .entry), (now (entries .entry), (now (offs0 .entry), now (offs1 .entry))))) ⌝ }
+    ensures drawn { λ r. ⌜ now (samples .exit) ≡ leaving (readFile (aidsOf (now (list .entry)) count (now (texture .entry))) (length (now (samples .entry))) (recordsLent (length (now (kinds .entry))) (length (now (entries .entry))) (length (now (offs0 .entry))) (length (now (offs1 .entry)))) (now (bytes .entry))) (λ F. samplesBack (aidsOf (now (list .entry)) count (now (texture .entry))) F (now (samples .entry))) (now (samples .entry)) ⌝ }
+{
+    let back = record_read::read(
+        bytes,
+        list,
+        count,
+        texture,
+        samples,
+        kinds,
+        entries,
+        offs0,
+        offs1,
+    );
+    let table = back.table;
+    FileRead {
+        refusal: wide(back.refusal),
+        line: back.line,
+        n: back.sheet.n,
+        width: back.sheet.width,
+        height: back.sheet.height,
+        placed: back.sheet.placed,
+        values: back.values,
+        table,
+    }
+}
+
+// Writes the file of a state into the lent bytes, as `record_write::write` does.
+#[no_mangle]
+pub extern "C" fn file_calls_write(
+    n: u32,
+    width: u32,
+    height: u32,
+    placed: u32,
+    list: &[u64],
+    count: usize,
+    table: &[u8],
+    kinds: &[u32],
+    entries: &[u32],
+    offs0: &[i32],
+    offs1: &[i32],
+    out: &mut [u8],
+) -> FileWritten
+    ensures answered { λ r. ⌜ r ≡ fileWrittenOf (writeAnswer (sourceOf (stateOf n width height placed) (now (table .entry)) (recordAt (now (kinds .entry)) (now (entries .entry)) (now (offs0 .entry)) (now (offs1 .entry)))) (now (list .entry)) count (recordsLent (length (now (kinds .entry))) (length (now (entries .entry))) (length (now (offs0 .entry))) (length (now (offs1 .entry)))) (length (now (out .entry)))) ⌝ }
+    ensures left { λ r. ⌜ now (out .exit) ≡ writeAfter (sourceOf (stateOf n width height placed) (now (table .entry)) (recordAt (now (kinds .entry)) (now (entries .entry)) (now (offs0 .entry)) (now (offs1 .entry)))) (now (list .entry)) count (recordsLent (length (now (kinds .entry))) (length (now (entries .entry))) (length (now (offs0 .entry))) (length (now (offs1 .entry)))) (now (out .entry)) ⌝ }
+{
+    let sheet = Sheet {
+        n,
+        width,
+        height,
+        placed,
+    };
+    let wrote = record_write::write(sheet, list, count, table, kinds, entries, offs0, offs1, out);
+    match wrote {
+        Wrote::Length(length) => FileWritten { refusal: 0, length },
+        Wrote::Refused(number) => FileWritten {
+            refusal: wide(number),
+            length: 0,
+        },
+    }
+}

@@ -1,0 +1,136 @@
+//! The calls of `libfile_calls.a`: crates/file_calls has their contracts.
+
+use crate::lent::{Lent, LentFields};
+use reference::sheet::Sheet;
+
+/// What reading answers; a refusal has 0 in all fields but its number and line.
+#[repr(C)]
+#[derive(Clone, Copy, Debug, PartialEq)]
+pub struct FileRead {
+    pub refusal: u32,
+    pub line: u32,
+    pub n: u32,
+    pub width: u32,
+    pub height: u32,
+    pub placed: u32,
+    pub values: u32,
+    pub table: [u8; 256],
+}
+
+/// What writing answers; a refusal has the length 0.
+#[repr(C)]
+#[derive(Clone, Copy, Debug, PartialEq)]
+pub struct FileWritten {
+    pub refusal: u32,
+    pub length: usize,
+}
+
+extern "C" {
+    fn file_calls_read(
+        bytes: *const u8,
+        bytes_len: usize,
+        list: *const u64,
+        list_len: usize,
+        count: usize,
+        texture: *const u8,
+        texture_len: usize,
+        samples: *mut u8,
+        samples_len: usize,
+        kinds: *mut u32,
+        kinds_len: usize,
+        entries: *mut u32,
+        entries_len: usize,
+        offs0: *mut i32,
+        offs0_len: usize,
+        offs1: *mut i32,
+        offs1_len: usize,
+    ) -> FileRead;
+
+    fn file_calls_write(
+        n: u32,
+        width: u32,
+        height: u32,
+        placed: u32,
+        list: *const u64,
+        list_len: usize,
+        count: usize,
+        table: *const u8,
+        table_len: usize,
+        kinds: *const u32,
+        kinds_len: usize,
+        entries: *const u32,
+        entries_len: usize,
+        offs0: *const i32,
+        offs0_len: usize,
+        offs1: *const i32,
+        offs1_len: usize,
+        out: *mut u8,
+        out_len: usize,
+    ) -> FileWritten;
+}
+
+/// The library reads a file. What it is only lent to read is taken by `&mut` too, so that a write to it would show.
+pub fn read(
+    file: &mut Lent<u8>,
+    list: &mut Lent<u64>,
+    count: usize,
+    texture: &mut Lent<u8>,
+    samples: &mut Lent<u8>,
+    records: &mut LentFields,
+) -> FileRead {
+    unsafe {
+        file_calls_read(
+            file.start(),
+            file.len(),
+            list.start(),
+            list.len(),
+            count,
+            texture.start(),
+            texture.len(),
+            samples.start(),
+            samples.len(),
+            records.kinds.start(),
+            records.kinds.len(),
+            records.entries.start(),
+            records.entries.len(),
+            records.offs0.start(),
+            records.offs0.len(),
+            records.offs1.start(),
+            records.offs1.len(),
+        )
+    }
+}
+
+/// The library writes a file.
+pub fn write(
+    sheet: &Sheet,
+    list: &mut Lent<u64>,
+    count: usize,
+    table: &mut Lent<u8>,
+    records: &mut LentFields,
+    out: &mut Lent<u8>,
+) -> FileWritten {
+    unsafe {
+        file_calls_write(
+            sheet.n,
+            sheet.width,
+            sheet.height,
+            sheet.placed,
+            list.start(),
+            list.len(),
+            count,
+            table.start(),
+            table.len(),
+            records.kinds.start(),
+            records.kinds.len(),
+            records.entries.start(),
+            records.entries.len(),
+            records.offs0.start(),
+            records.offs0.len(),
+            records.offs1.start(),
+            records.offs1.len(),
+            out.start(),
+            out.len(),
+        )
+    }
+}
