@@ -1,6 +1,6 @@
 -- Refusals in order: what follows where no check fails, and the answer in each case. Assumes nothing.
 use Prim.Native.Nat.{ℕ, zero, suc}
-use mathlib.Core.Path.{_≡_, refl}
+use mathlib.Core.Path.{_≡_, refl, ap₂, _∙_}
 use mathlib.Core.Bool.{Bool, true, false}
 use native.Mathlib.Omega.{arith}
 use Rattle.arith.specs.Checks.{unless, Answer, refused, given, answer, lent}
@@ -9,6 +9,10 @@ use Rattle.arith.specs.Checks.{unless, Answer, refused, given, answer, l
 pub passed : (b : Bool) (k rest : ℕ) → unless b (suc k) rest ≡ 0 → (b ≡ true) × (rest ≡ 0)
 passed true k rest h = (refl, h)
 passed false k rest h = absurd (omega arith)
+
+-- a check as the code makes it: its test b is the check a, and r is what the checks after it say
+pub checked : (k : ℕ) {t r s : ℕ} {a b : Bool} → t ≡ unless b k r → b ≡ a → r ≡ s → t ≡ unless a k s
+checked k e f g = e ∙ ap₂ (λ (x : Bool) (y : ℕ). unless x k y) f g
 
 module _ {A : Type 0} where
   pub answer-refused : (k : ℕ) (a : A) → (k ≡ 0 → ⊥) → refused k ≡ answer k a

@@ -1,6 +1,6 @@
 -- Laws of the predicted block: its length, its range, and the form in which the code writes it. Assumes nothing.
 use Prim.Native.Nat.{ℕ, _*_, _<_}
-use mathlib.Core.Path.{_≡_, sym, ap₂, _∙_}
+use mathlib.Core.Path.{_≡_, sym, ap, ap₂, _∙_}
 use mathlib.Core.Bool.{Bool, true, false, cond}
 use mathlib.Core.List.{List}
 use lib.IntN.{ℤ}
@@ -21,6 +21,13 @@ use Rattle.prediction.specs.Block.{levelOf, sampleOf, predicted}
 pub level-byte : (t : List ℕ) (d : ℕ) (off : ℤ) → tableOk t ≡ true → levelOf t d off < 256
 unfolding levelOf
 level-byte t d off ok = table-bytes t ok (clamped (length t) (indexOf t d) off)
+
+-- the level of a depth by the code's two steps: the index i of the depth, and the place k of the clamped sum
+pub level-at :
+    (t : List ℕ) (d : ℕ) {i k : ℕ} {z : ℤ} (off : ℤ)
+    → k ≡ clamped (length t) i z → i ≡ indexOf t d → z ≡ off → getD t k 0 ≡ levelOf t d off
+unfolding levelOf
+level-at t d off e p o = ap (λ (x : ℕ). getD t x 0) (e ∙ ap₂ (clamped (length t)) p o)
 
 -- the level v of the samples with the mark m, by the steps that the code takes
 pub level-found :

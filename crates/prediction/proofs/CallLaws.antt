@@ -1,6 +1,6 @@
 -- What holds where no check of `predict` fails. Assumes nothing.
 use Prim.Native.Nat.{ℕ, _*_, _^_, _≤_, _<_}
-use mathlib.Core.Path.{_≡_, sym, _∙_}
+use mathlib.Core.Path.{_≡_, sym, ap₂, _∙_}
 use mathlib.Core.Bool.{true}
 use mathlib.Core.List.{List}
 use lib.Count.{ones}
@@ -21,6 +21,12 @@ use Rattle.sides.specs.Answer.{sidesRefusal}
 use Rattle.sides.proofs.CallLaws.{sides-pass}
 use Rattle.prediction.specs.Offset.{offsetOk}
 use Rattle.prediction.specs.Answer.{lengthsOk, predictRefusal, predictAnswer}
+
+-- the checks of offsets that are read from their bits
+pub offsets-read :
+    (n w neighbours : ℕ) (t : List ℕ) (samples : ℕ) {number : ℕ} {off0 off1 y z : ℤ}
+    → y ≡ off0 → z ≡ off1 → number ≡ predictRefusal n w neighbours t y z samples → number ≡ predictRefusal n w neighbours t off0 off1 samples
+offsets-read n w neighbours t samples e f p = p ∙ ap₂ (λ (x y : ℤ). predictRefusal n w neighbours t x y samples) e f
 
 -- `predict` refuses nothing
 pub record PredictAccepted (n w neighbours : ℕ) (t : List ℕ) (off0 off1 : ℤ) (samples : ℕ) : Type 0 where

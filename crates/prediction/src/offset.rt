@@ -28,21 +28,21 @@ fn minus(a: usize, b: usize) -> usize
     if a < b { 0 } else { a - b }
 }
 
-// An index plus an offset, clamped to 0 .. count - 1.
-fn clamped_index(count: usize, index: DepthIndex, off: i32) -> DepthIndex
-    ensures { λ r. ⌜ r .0 ≡ clamped count (index .0) off ⌝ }
+// The place of an index plus an offset, clamped to 0 .. count - 1.
+fn clamped_place(count: usize, index: DepthIndex, off: i32) -> usize
+    ensures { λ r. ⌜ r ≡ clamped count (index .0) off ⌝ }
 {
     let i = index.0;
     let last = minus(count, 1);
     if off < 0 {
         let steps = (-1 - off) as usize;
-        return DepthIndex(lesser(minus(i, steps + 1), last));
+        return lesser(minus(i, steps + 1), last);
     }
     let steps = off as usize;
     if last < i {
-        return DepthIndex(last);
+        return last;
     }
-    DepthIndex(i + lesser(steps, last - i))
+    i + lesser(steps, last - i)
 }
 
 // The table value at the index of a depth plus an offset, clamped; 0 in an empty table.
@@ -50,7 +50,6 @@ pub(crate) fn level(table: &[u8], d: DepthValue, off: i32) -> u8
     ensures { λ r. ⌜ r ≡ levelOf (now (table .entry)) (d .0) off ⌝ }
 {
     let index = depth_table::nearest_index(table, d);
-    let at = clamped_index(table.len(), index, off);
-    let k = at.0;
+    let k = clamped_place(table.len(), index, off);
     if k < table.len() { table[k] } else { 0 }
 }

@@ -7,7 +7,7 @@ use native.Mathlib.Omega.{arith}
 use borrow.Author.Tests.{eqb-true, leb-true}
 use lib.Dec.{eqb, leb}
 use lib.ListN.{length}
-use Rattle.arith.specs.Checks.{refused, answer}
+use Rattle.arith.specs.Checks.{Answer, refused, answer}
 use Rattle.arith.proofs.Bools.{both-of}
 use Rattle.arith.proofs.CheckLaws.{answer-refused, lent-refused}
 use Rattle.choice.specs.Record.{Record}
@@ -74,14 +74,16 @@ module _ (S : Sheet) (s : List ℕ) (T : Task) (records : ℕ) where
   field-refused field old e h = lent-refused (composeRefusal S (length s) T records) _ old (λ z. h (e ∙ z))
 
   module _ (passed : composeRefusal S (length s) T records ≡ choiceRefusal S T) where
-    pub told-by : answer (choiceRefusal S T) (finished S, missing S) ≡ composeAnswer S s T records
+    pub told-by : {x : Answer (Sheet × ℕ)} → x ≡ answer (choiceRefusal S T) (finished S, missing S) → x ≡ composeAnswer S s T records
     unfolding composeAnswer
-    told-by = rw passed
+    told-by e = rw passed e
 
-    pub samples-by : samplesBy (choiceRefusal S T) S s T ≡ composeAfter S s T records
+    pub samples-by : {l : List ℕ} → l ≡ samplesBy (choiceRefusal S T) S s T → l ≡ composeAfter S s T records
     unfolding composeAfter
-    samples-by = rw passed
+    samples-by e = rw passed e
 
-    pub field-by : {A : Type 0} (field : Record → A) (old : List A) → fieldBy (choiceRefusal S T) field S s T old ≡ composeField field S s T records old
+    pub field-by :
+        {A : Type 0} (field : Record → A) (old : List A) {l : List A}
+        → l ≡ fieldBy (choiceRefusal S T) field S s T old → l ≡ composeField field S s T records old
     unfolding composeField
-    field-by field old = rw passed
+    field-by field old e = rw passed e

@@ -48,22 +48,19 @@ module _ (n w : ℕ) (s : List ℕ) (m : Bool) {t b : Bool} (e : t ≡ differ m 
   pub this-side : t ≡ false → lt n w s ≡ sideDepth n w s m
   this-side h = ap (λ (x : Bool). cond x (br n w s) (lt n w s)) (sym h) ∙ by-test
 
--- ---- T0 as the code reads it, and the ends of the runs
+-- ---- the ends of the runs, by the code's test of how much each run changes
 
-pub top-first : (n : ℕ) (s : List ℕ) → getD s (2 * n) 0 ≡ topAt n s 0
-top-first n s = rw (add-zero (2 * n))
+module _ (n : ℕ) (s : List ℕ) {a b : ℕ} (e : a ≡ dist (getD s (2 * n) 0) (topAt n s (2 * n - 1))) (f : b ≡ leftChange n s) where
+  top-run : a ≡ topChange n s
+  top-run = e ∙ ap (λ (k : ℕ). dist (getD s k 0) (topAt n s (2 * n - 1))) (sym (add-zero (2 * n)))
 
-module _ (n : ℕ) (s : List ℕ) where
-  abbrev topRun : ℕ
-  topRun = dist (getD s (2 * n) 0) (topAt n s (2 * n - 1))
-
-  pub far-left : topRun < leftChange n s → leftAt s (2 * n - 1) ≡ brBy n s false false
+  pub far-left : a < b → leftAt s (2 * n - 1) ≡ brBy n s false false
   unfolding brBy
-  far-left h = rw (add-zero (2 * n), lt-ltb topRun (leftChange n s) h)
+  far-left h = rw (lt-ltb (topChange n s) (leftChange n s) (rw (top-run, f) at h))
 
-  pub far-top : leftChange n s ≤ topRun → topAt n s (2 * n - 1) ≡ brBy n s false false
+  pub far-top : b ≤ a → topAt n s (2 * n - 1) ≡ brBy n s false false
   unfolding brBy
-  far-top h = rw (add-zero (2 * n), le-ltb topRun (leftChange n s) h)
+  far-top h = rw (le-ltb (topChange n s) (leftChange n s) (rw (top-run, f) at h))
 
 -- ---- the range: side depths are below 256 where all neighbours are
 

@@ -1,10 +1,11 @@
 // The depths of the two partitions of a pattern, from the neighbours of its block.
 ghost use mathlib.Core.Path.{_≡_};
 ghost use mathlib.Core.Bool.{false};
-ghost use Prim.Native.Nat.{_*_, _≤_};
-ghost use lib.ListN.{length};
+ghost use Prim.Native.Nat.{_*_, _≤_, _<_};
+ghost use lib.ListN.{length, getD};
 ghost use Rattle.arith.specs.Checks.{lent};
-ghost use Rattle.sides.specs.Sides.{differ, mean, vertEdge, horEdge, ltBy, brBy, lt, br, sideDepth};
+ghost use Rattle.arith.specs.Distance.{dist};
+ghost use Rattle.sides.specs.Sides.{leftAt, topAt, differ, mean, vertEdge, horEdge, ltBy, brBy, lt, br, sideDepth};
 ghost use Rattle.sides.specs.Answer.{sidesRefusal, sidesAnswer, sidesTold};
 use crate::SideDepths;
 use depth_table::DepthValue;
@@ -41,21 +42,38 @@ fn mean_of(a: u8, b: u8) -> u8
     ((a as u32 + b as u32) / 2) as u8
 }
 
-// The depth of the side that holds (0,0).
-fn lt_depth(n: usize, v: bool, h: bool, border: &[u8]) -> DepthValue
-    requires { ⌜ (1 ≤ n) × (length (now border) ≡ 4 * n) ⌝ }
-    ensures { λ r. ⌜ r .0 ≡ ltBy n (now (border .entry)) v h ⌝ }
+// The mean of place i of the left run and of the top run.
+fn mean_at(n: usize, border: &[u8], i: usize) -> u8
+    requires { ⌜ (i < n) × (length (now border) ≡ 4 * n) ⌝ }
+    ensures { λ r. ⌜ r ≡ mean (leftAt (now (border .entry)) i) (topAt n (now (border .entry)) i) ⌝ }
 {
+    mean_of(border[i], border[2 * n + i])
+}
+
+// The depth of the side that holds (0,0), by v and h.
+fn lt_depth(n: usize, v: bool, h: bool, border: &[u8]) -> u8
+    requires { ⌜ (1 ≤ n) × (length (now border) ≡ 4 * n) ⌝ }
+    ensures { λ r. ⌜ r ≡ ltBy n (now (border .entry)) v h ⌝ }
+{
+    let middle = (n - 1) / 2;
     if v {
         if h {
-            return DepthValue(mean_of(border[0], border[2 * n]));
+            return mean_at(n, border, 0);
         }
-        return DepthValue(border[(n - 1) / 2]);
+        return border[middle];
     }
     if h {
-        return DepthValue(border[2 * n + (n - 1) / 2]);
+        return border[2 * n + middle];
     }
-    DepthValue(mean_of(border[0], border[2 * n]))
+    mean_at(n, border, 0)
+}
+
+// How much two neighbours differ.
+fn change(border: &[u8], a: usize, b: usize) -> u8
+    requires { ⌜ (a < length (now border)) × (b < length (now border)) ⌝ }
+    ensures { λ r. ⌜ r ≡ dist (getD (now (border .entry)) a 0) (getD (now (border .entry)) b 0) ⌝ }
+{
+    depth_table::distance(border[a], border[b])
 }
 
 // The end of the run that changes more, and of the top run where both change as much.
@@ -64,46 +82,49 @@ fn far_end(n: usize, border: &[u8]) -> u8
     ensures { λ r. ⌜ r ≡ brBy n (now (border .entry)) false false ⌝ }
 {
     let top = 2 * n;
-    let left_end = border[top - 1];
-    let top_end = border[top + (top - 1)];
-    if depth_table::distance(border[top], top_end) < depth_table::distance(border[0], left_end) {
-        left_end
+    let left_end = top - 1;
+    let top_end = top + left_end;
+    if change(border, top, top_end) < change(border, 0, left_end) {
+        border[left_end]
     } else {
-        top_end
+        border[top_end]
     }
 }
 
-// The depth of the other side.
-fn br_depth(n: usize, v: bool, h: bool, border: &[u8]) -> DepthValue
+// The depth of the other side, by v and h.
+fn br_depth(n: usize, v: bool, h: bool, border: &[u8]) -> u8
     requires { ⌜ (1 ≤ n) × (length (now border) ≡ 4 * n) ⌝ }
-    ensures { λ r. ⌜ r .0 ≡ brBy n (now (border .entry)) v h ⌝ }
+    ensures { λ r. ⌜ r ≡ brBy n (now (border .entry)) v h ⌝ }
 {
+    let last = n - 1;
     if v {
         if h {
-            return DepthValue(mean_of(border[n - 1], border[2 * n + (n - 1)]));
+            return mean_at(n, border, last);
         }
-        return DepthValue(border[2 * n + (n - 1)]);
+        return border[2 * n + last];
     }
     if h {
-        return DepthValue(border[n - 1]);
+        return border[last];
     }
-    DepthValue(far_end(n, border))
+    far_end(n, border)
 }
 
-// The depth of the side that holds (0,0), of a pattern.
 fn lt_of(n: usize, word: u64, border: &[u8]) -> DepthValue
     requires { ⌜ (1 ≤ n) × (n ≤ 8) × (length (now border) ≡ 4 * n) ⌝ }
     ensures { λ r. ⌜ r .0 ≡ lt n word (now (border .entry)) ⌝ }
 {
-    lt_depth(n, vert_edge(n, word), hor_edge(n, word), border)
+    let v = vert_edge(n, word);
+    let h = hor_edge(n, word);
+    DepthValue(lt_depth(n, v, h, border))
 }
 
-// The depth of the other side, of a pattern.
 fn br_of(n: usize, word: u64, border: &[u8]) -> DepthValue
     requires { ⌜ (1 ≤ n) × (n ≤ 8) × (length (now border) ≡ 4 * n) ⌝ }
     ensures { λ r. ⌜ r .0 ≡ br n word (now (border .entry)) ⌝ }
 {
-    br_depth(n, vert_edge(n, word), hor_edge(n, word), border)
+    let v = vert_edge(n, word);
+    let h = hor_edge(n, word);
+    DepthValue(br_depth(n, v, h, border))
 }
 
 fn sides_refusal(n: usize, word: u64, border: &[u8]) -> u8

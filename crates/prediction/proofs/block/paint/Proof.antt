@@ -1,7 +1,7 @@
 -- `paint` meets its contract. The invariant: the samples below k have their values.
 use Prim.Native.Nat.{ℕ, _<_, _≤_, _-_}
-use mathlib.Core.Path.{_≡_, refl}
-use mathlib.Core.Bool.{cond}
+use mathlib.Core.Path.{_≡_, refl, ap, _∙_}
+use mathlib.Core.Bool.{Bool, cond}
 use native.Mathlib.Omega.{arith}
 use borrow.Author.Needs.{needs}
 use borrow.Author.Count.{below-none}
@@ -22,13 +22,13 @@ loop-holds : tie.Need-loop-holds Inv-loop μ-loop
 loop-holds c = (omega arith, refl, below-none _)
 
 mark-at-requires : tie.Need-mark-at-requires Inv-loop μ-loop
-mark-at-requires c κs = search needs
+mark-at-requires c κs = tt
 
 pick-requires : tie.Need-pick-requires Inv-loop μ-loop
-pick-requires c κs = search needs
+pick-requires c κs = tt
 
 slice-write-block : tie.Need-slice-write-block Inv-loop μ-loop
-slice-write-block c = search needs
+slice-write-block c = c .before .before .loop-test .taken
 
 add-k : tie.Need-add-k Inv-loop μ-loop
 add-k c = search needs
@@ -40,7 +40,7 @@ loop-again : tie.Need-loop-again Inv-loop μ-loop
 loop-again c =
     let l = c .before .before .before .loop in
     let a = c .before .before .before .before .before .args in
-    let e : c .pick .result ≡ cond (testBit (a .word) (l .k)) (a .v1) (a .v0) = cc in (
+    let e = c .pick .ensures ∙ ap (λ (b : Bool). cond b (a .v1) (a .v0)) (c .before .mark-at .ensures) in (
       simp length-set (omega arith),
       simp length-set (l .inv .1),
       stored (λ j. cond (testBit (a .word) j) (a .v1) (a .v0)) 0 (l .block) (l .k) _ (c .before .before .loop-test .taken) e (l .inv .2),

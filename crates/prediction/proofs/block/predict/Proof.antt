@@ -1,16 +1,15 @@
 -- `predict` meets its contract: the answer and the block where a check fails, and where none does.
 use Prim.Native.Nat.{ℕ}
-use mathlib.Core.Path.{_≡_, sym, ap₂, _∙_}
+use mathlib.Core.Path.{_≡_, sym, _∙_}
 use mathlib.Core.Bool.{true, false}
 use denote.Ref.{now}
-use lib.IntN.{ℤ}
 use lib.ListN.{length}
 use mir.Syntax.{w32}
 use mir.ValLaws.{toZ-ofZ}
 use Rattle.arith.proofs.CheckLaws.{answer-refused, answer-given, lent-refused, lent-given}
 use Rattle.prediction.specs.Answer.{predictRefusal, predictAnswer, predictBlock}
 use Rattle.prediction.proofs.BlockLaws.{level-found, painted-is}
-use Rattle.prediction.proofs.CallLaws.{predict-accepted, sides-accept}
+use Rattle.prediction.proofs.CallLaws.{offsets-read, predict-accepted, sides-accept}
 use borrow.Author.Needs.{needs}
 use Rattle.prediction.proofs.block.predict.Statement.{statement}
 use Rattle.prediction.proofs.block.predict.Tie as tie
@@ -24,11 +23,7 @@ number s =
 number-found : (c : tie.After-predict-refusal) → c .predict-refusal .result ≡ number (c .before .before .before .before)
 number-found c =
     let start = c .before .before .before .before in
-    let a = start .args in
-    c .predict-refusal .ensures
-    ∙ ap₂ (λ (x y : ℤ). predictRefusal (a .n) (a .word) (length (now (a .border))) (now (a .table)) x y (length (now (a .block))))
-    (toZ-ofZ w32 _ (start .fits .off0))
-    (toZ-ofZ w32 _ (start .fits .off1))
+    offsets-read _ _ _ _ _ (toZ-ofZ w32 _ (start .fits .off0)) (toZ-ofZ w32 _ (start .fits .off1)) (c .predict-refusal .ensures)
 
 -- no check has failed
 none : (c : tie.Else1) → number (c .before .before .before .before .before) ≡ 0

@@ -1,11 +1,12 @@
 -- `predict_refusal` meets its contract: the size first, then the other checks in their order.
-use mathlib.Core.Path.{sym, _∙_}
+use mathlib.Core.Path.{refl, sym, ap, _∙_}
 use mir.Syntax.{w32}
 use mir.ValLaws.{toZ-ofZ}
 use borrow.Author.Tests.{not-true, not-false}
 use Rattle.pattern.proofs.SizeLaws.{size-bounds}
+use Rattle.arith.proofs.CheckLaws.{checked}
+use Rattle.prediction.specs.Offset.{offsetOk}
 use Rattle.prediction.specs.Answer.{predictRefusal}
-use borrow.Author.Needs.{needs}
 use Rattle.prediction.proofs.block.predict_refusal.Statement.{statement}
 use Rattle.prediction.proofs.block.predict_refusal.Tie as tie
 
@@ -50,10 +51,17 @@ check-requires-5 c κs = tt
 returns-2 : tie.Need-returns-2
 unfolding predictRefusal
 returns-2 c =
-    let test = c .before .before .before .before .before .before .before .before .before .before in
+    let checks = c .before .before .before in
+    let judged = checks .before .before in
+    let inside = judged .before .before in
+    let test = inside .before .before .before in
     let start = test .before .before .before in
     rw (sym (test .before .size-ok .ensures) ∙ not-false _ (test .if1 .left))
-    (cc (toZ-ofZ w32 _ (start .fits .off0), toZ-ofZ w32 _ (start .fits .off1)))
+    (checked 2 (c .check5 .ensures) (inside .before .before .lengths-ok .ensures)
+    (checked 3 (c .before .check4 .ensures) (inside .before .is-table .ensures)
+    (checked 5 (c .before .before .check3 .ensures) (inside .word-ok .ensures)
+    (checked 4 (checks .check2 .ensures) (judged .before .offset-ok .ensures ∙ ap offsetOk (toZ-ofZ w32 _ (start .fits .off0)))
+    (checked 4 (checks .before .check .ensures) (judged .offset-ok2 .ensures ∙ ap offsetOk (toZ-ofZ w32 _ (start .fits .off1))) refl)))))
 
 pub predict-refusal-spec : {M : Type 1} → statement M
 predict-refusal-spec =

@@ -21,13 +21,13 @@ abbrev records : tie.Start → ℕ
 records d = recordsLent (length (d .args .kinds .now)) (length (d .args .entries .now)) (length (d .args .offs0 .now)) (length (d .args .offs1 .now))
 
 records-lent-requires : tie.Need-records-lent-requires
-records-lent-requires c κs = search needs
+records-lent-requires c κs = tt
 
 compose-lengths-ok-requires : tie.Need-compose-lengths-ok-requires
-compose-lengths-ok-requires c κs = search needs
+compose-lengths-ok-requires c κs = tt
 
 open-refusal-requires : tie.Need-open-refusal-requires
-open-refusal-requires c κs = search needs
+open-refusal-requires c κs = tt
 
 -- whether the lengths hold
 judged :
@@ -103,18 +103,17 @@ returns-2 c =
     let d = e .before .before .before .before .before .before .before .before .before .before .before in
     let a = d .args in
     let p = compose-passed (a .self) (task d) (length (a .samples .now)) (records d) (none e) in
-    let told = m .compose-missing .ensures .0 in
     let left = m .compose-missing .ensures .1 in (
-      told ∙ told-by (a .self) (a .samples .now) (task d) (records d) p,
+      told-by (a .self) (a .samples .now) (task d) (records d) p (m .compose-missing .ensures .0),
       (
-        left .samples-are ∙ samples-by (a .self) (a .samples .now) (task d) (records d) p,
+        samples-by (a .self) (a .samples .now) (task d) (records d) p (left .samples-are),
         (
-          left .kinds-are ∙ field-by (a .self) (a .samples .now) (task d) (records d) p (λ (r : Record). r .kind) (a .kinds .now),
+          field-by (a .self) (a .samples .now) (task d) (records d) p (λ (r : Record). r .kind) (a .kinds .now) (left .kinds-are),
           (
-            left .entries-are ∙ field-by (a .self) (a .samples .now) (task d) (records d) p (λ (r : Record). r .entry) (a .entries .now),
+            field-by (a .self) (a .samples .now) (task d) (records d) p (λ (r : Record). r .entry) (a .entries .now) (left .entries-are),
             (
-              left .first-are ∙ field-by (a .self) (a .samples .now) (task d) (records d) p (λ (r : Record). r .off0) (a .offs0 .now),
-              left .second-are ∙ field-by (a .self) (a .samples .now) (task d) (records d) p (λ (r : Record). r .off1) (a .offs1 .now),
+              field-by (a .self) (a .samples .now) (task d) (records d) p (λ (r : Record). r .off0) (a .offs0 .now) (left .first-are),
+              field-by (a .self) (a .samples .now) (task d) (records d) p (λ (r : Record). r .off1) (a .offs1 .now) (left .second-are),
             ),
           ),
         ),

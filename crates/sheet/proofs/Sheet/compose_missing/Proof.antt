@@ -42,7 +42,7 @@ abbrev task : tie.Start Inv-loop μ-loop → Task
 task d = taskOf (materialOf (d .args .list .now) (d .args .count) (d .args .table .now) (d .args .texture .now)) (d .args .original .now) (d .args .reach)
 
 blocks-requires : tie.Need-blocks-requires Inv-loop μ-loop
-blocks-requires c κs = search needs
+blocks-requires c κs = tt
 
 loop-holds : tie.Need-loop-holds Inv-loop μ-loop
 loop-holds c =

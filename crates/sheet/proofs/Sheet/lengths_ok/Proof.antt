@@ -28,7 +28,7 @@ unfolding lengthsOk
 returns-2 c = rw (eq-eqb _ _ (c .before .before .if1 .left), sym (c .before .texture-ok .ensures) ∙ not-true _ (c .if2 .taken))
 
 count-ok-requires : tie.Need-count-ok-requires
-count-ok-requires c κs = search needs
+count-ok-requires c κs = tt
 
 returns-3 : tie.Need-returns-3
 unfolding lengthsOk

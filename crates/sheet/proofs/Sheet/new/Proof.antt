@@ -1,5 +1,4 @@
 -- `Sheet::new` meets its contract: 1, then 8, then the empty state.
-use borrow.Author.Needs.{needs}
 use mathlib.Core.Path.{_≡_, sym, _∙_}
 use mathlib.Core.Bool.{true}
 use native.Mathlib.Omega.{arith}
@@ -11,7 +10,7 @@ use Rattle.sheet.proofs.Sheet.new.Statement.{statement}
 use Rattle.sheet.proofs.Sheet.new.Tie as tie
 
 size-ok-requires : tie.Need-size-ok-requires
-size-ok-requires c κs = search needs
+size-ok-requires c κs = tt
 
 returns : tie.Need-returns
 unfolding newRefusal newAnswer

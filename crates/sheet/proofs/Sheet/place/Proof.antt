@@ -32,7 +32,7 @@ lengths-ok-requires : tie.Need-lengths-ok-requires
 lengths-ok-requires c κs = search needs
 
 open-refusal-requires : tie.Need-open-refusal-requires
-open-refusal-requires c κs = search needs
+open-refusal-requires c κs = tt
 
 returns : tie.Need-returns
 returns c =
@@ -70,7 +70,7 @@ enum-known-word : tie.Need-enum-known-word
 enum-known-word c = search needs
 
 offsets-ok-requires : tie.Need-offsets-ok-requires
-offsets-ok-requires c κs = search needs
+offsets-ok-requires c κs = tt
 
 -- past the check of kind and entry
 means :

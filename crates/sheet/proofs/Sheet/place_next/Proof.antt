@@ -15,7 +15,7 @@ use Rattle.sheet.proofs.Sheet.place_next.Statement.{statement}
 use Rattle.sheet.proofs.Sheet.place_next.Tie as tie
 
 place-requires : tie.Need-place-requires
-place-requires c κs = search needs
+place-requires c κs = tt
 
 -- what `place` answers and leaves
 answered :

@@ -1,5 +1,4 @@
 -- `texture_next` meets its contract, by whether texture is lent.
-use borrow.Author.Needs.{needs}
 use mathlib.Core.Logic.{⊎-elim}
 use native.Mathlib.Omega.{arith}
 use borrow.Author.Tests.{lt-ltb, le-ltb}
@@ -8,7 +7,7 @@ use Rattle.sheet.proofs.Sheet.texture_next.Statement.{statement}
 use Rattle.sheet.proofs.Sheet.texture_next.Tie as tie
 
 blank-requires : tie.Need-blank-requires
-blank-requires c κs = search needs
+blank-requires c κs = tt
 
 returns : tie.Need-returns
 returns c = rw (le-ltb 0 (length (c .before .before .before .args .texture .now)) (omega arith))

@@ -13,7 +13,7 @@ sub-lesser : tie.Need-sub-lesser
 sub-lesser c = search needs
 
 lesser-requires : tie.Need-lesser-requires
-lesser-requires c κs = search needs
+lesser-requires c κs = tt
 
 sub-read-at : tie.Need-sub-read-at
 sub-read-at c = search needs

@@ -1,5 +1,4 @@
 -- `offsets_ok` meets its contract: one offset, then the other.
-use borrow.Author.Needs.{needs}
 use mathlib.Core.Path.{sym, _∙_}
 use mir.Syntax.{w32}
 use mir.ValLaws.{toZ-ofZ}
@@ -8,7 +7,7 @@ use Rattle.sheet.proofs.placing.offsets_ok.Statement.{statement}
 use Rattle.sheet.proofs.placing.offsets_ok.Tie as tie
 
 offset-ok-requires : tie.Need-offset-ok-requires
-offset-ok-requires c κs = search needs
+offset-ok-requires c κs = tt
 
 returns : tie.Need-returns
 returns c =
@@ -16,7 +15,7 @@ returns c =
     rw (sym (rw (toZ-ofZ w32 (d .args .off0) (d .fits .off0)) at (c .before .offset-ok .ensures)) ∙ not-true _ (c .if1 .taken))
 
 offset-ok-requires-2 : tie.Need-offset-ok-requires-2
-offset-ok-requires-2 c κs = search needs
+offset-ok-requires-2 c κs = tt
 
 returns-2 : tie.Need-returns-2
 returns-2 c =

@@ -15,7 +15,7 @@ shared-slice-read-word : tie.Need-shared-slice-read-word
 shared-slice-read-word c = search needs
 
 word-ok-requires : tie.Need-word-ok-requires
-word-ok-requires c κs = search needs
+word-ok-requires c κs = tt
 
 returns-2 : tie.Need-returns-2
 returns-2 c = rw (lt-ltb _ _ (c .before .before .before .if1 .left), sym (c .before .word-ok .ensures) ∙ not-true _ (c .if2 .taken))

@@ -4,12 +4,11 @@ use native.Mathlib.Omega.{arith}
 use borrow.Author.Tests.{not-true, not-false, eq-eqb, ne-eqb}
 use Rattle.pattern.proofs.SizeLaws.{size-bounds}
 use Rattle.sides.specs.Answer.{sidesRefusal}
-use borrow.Author.Needs.{needs}
 use Rattle.sides.proofs.sides.sides_refusal.Statement.{statement}
 use Rattle.sides.proofs.sides.sides_refusal.Tie as tie
 
 size-ok-requires : tie.Need-size-ok-requires
-size-ok-requires c κs = search needs
+size-ok-requires c κs = tt
 
 returns : tie.Need-returns
 unfolding sidesRefusal
@@ -24,7 +23,7 @@ returns-2 c =
     rw (sym (c .before .before .size-ok .ensures) ∙ not-false _ (c .before .if1 .left), ne-eqb _ _ (c .if2 .taken))
 
 word-ok-requires : tie.Need-word-ok-requires
-word-ok-requires c κs = search needs
+word-ok-requires c κs = tt
 
 returns-3 : tie.Need-returns-3
 unfolding sidesRefusal

@@ -1,23 +1,27 @@
 -- `vert_edge` meets its contract: the corners' marks are bits 0 and n - 1.
+use mathlib.Core.Path.{sym, ap₂, _∙_}
 use borrow.Author.Needs.{needs}
+use Rattle.sides.specs.Sides.{differ}
 use Rattle.sides.proofs.SideLaws.{vert-edge-bits}
 use Rattle.sides.proofs.sides.vert_edge.Statement.{statement}
 use Rattle.sides.proofs.sides.vert_edge.Tie as tie
 
 mark-at-requires : tie.Need-mark-at-requires
-mark-at-requires c κs = search needs
+mark-at-requires c κs = tt
 
 sub-mark-at : tie.Need-sub-mark-at
 sub-mark-at c = search needs
 
 mark-at-requires-2 : tie.Need-mark-at-requires-2
-mark-at-requires-2 c κs = search needs
+mark-at-requires-2 c κs = tt
 
 differs-requires : tie.Need-differs-requires
-differs-requires c κs = search needs
+differs-requires c κs = tt
 
 returns : tie.Need-returns
-returns c = rw vert-edge-bits (cc)
+returns c =
+    let marks = c .before in
+    c .differs .ensures ∙ ap₂ differ (marks .before .mark-at .ensures) (marks .mark-at2 .ensures) ∙ sym (vert-edge-bits _ _)
 
 pub vert-edge-spec : {M : Type 1} → statement M
 vert-edge-spec =

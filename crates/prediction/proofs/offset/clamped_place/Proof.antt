@@ -1,14 +1,14 @@
--- `clamped_index` meets its contract: by the offset's sign, so many steps down or up, and then the clamp.
+-- `clamped_place` meets its contract: by the offset's sign, so many steps down or up, and then the clamp.
 use native.Mathlib.Omega.{arith}
 use borrow.Author.Needs.{needs}
 use mir.Syntax.{w32}
 use mir.ValLaws.{toZ-ofZ}
 use Rattle.prediction.proofs.OffsetLaws.{steps-small, minus-fits, minus-cast, minus-steps, clamped-down, plus-cast, plus-steps, clamped-up}
-use Rattle.prediction.proofs.offset.clamped_index.Statement.{statement}
-use Rattle.prediction.proofs.offset.clamped_index.Tie as tie
+use Rattle.prediction.proofs.offset.clamped_place.Statement.{statement}
+use Rattle.prediction.proofs.offset.clamped_place.Tie as tie
 
 minus-requires : tie.Need-minus-requires
-minus-requires c κs = search needs
+minus-requires c κs = tt
 
 sub-steps : tie.Need-sub-steps
 sub-steps c = let f = c .before .before .fits .off in minus-fits (toZ-ofZ w32 _ f) f (c .if1 .taken)
@@ -23,10 +23,10 @@ add-minus c =
     omega (arith, minus-steps e f (c .if1 .taken), steps-small e f)
 
 minus-requires-2 : tie.Need-minus-requires-2
-minus-requires-2 c κs = search needs
+minus-requires-2 c κs = tt
 
 lesser-requires : tie.Need-lesser-requires
-lesser-requires c κs = search needs
+lesser-requires c κs = tt
 
 returns : tie.Need-returns
 returns c =
@@ -52,10 +52,10 @@ returns-2 c =
     omega (arith, clamped-up e f (branch .if1 .left) (start .args .count) (start .args .index .0))
 
 lesser-requires-2 : tie.Need-lesser-requires-2
-lesser-requires-2 c κs = search needs
+lesser-requires-2 c κs = tt
 
-add-t15 : tie.Need-add-t15
-add-t15 c = search needs
+add-result : tie.Need-add-result
+add-result c = search needs
 
 returns-3 : tie.Need-returns-3
 returns-3 c =
@@ -69,8 +69,8 @@ returns-3 c =
       clamped-up e f (branch .if1 .left) (start .args .count) (start .args .index .0),
     )
 
-pub clamped-index-spec : {M : Type 1} → statement M
-clamped-index-spec =
+pub clamped-place-spec : {M : Type 1} → statement M
+clamped-place-spec =
     tie.close
     (tie.spec
     minus-requires
@@ -83,5 +83,5 @@ clamped-index-spec =
     cast-steps-2
     returns-2
     lesser-requires-2
-    add-t15
+    add-result
     returns-3)
