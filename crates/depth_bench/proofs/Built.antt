@@ -1,10 +1,8 @@
 -- The list that a choice for C builds: its count, and its refusal, which is the choice's own. Assumes nothing.
-use Prim.Native.Nat.{ℕ, _*_, _≤_}
+use Prim.Native.Nat.{ℕ}
 use mathlib.Core.Bool.{Bool, true, false}
 use mathlib.Core.List.{List}
 use mathlib.Core.Path.{_≡_, refl, sym, ap, _∙_}
-use native.Mathlib.Nat.{mul-le-mul}
-use native.Mathlib.Omega.{arith}
 use borrow.Author.Tests.{le-leb}
 use lib.ListN.{length, replicate, length-replicate}
 use Rattle.arith.specs.Checks.{refused, given, answer}
@@ -12,20 +10,16 @@ use Rattle.arith.proofs.CheckLaws.{given-means, refused-means}
 use Rattle.pattern.specs.Size.{sizeOk}
 use Rattle.pattern.specs.Wedgelet.{wedgeletList}
 use Rattle.pattern.specs.Answer.{needed, listRefusal, listAnswer, listAfter}
-use Rattle.pattern.proofs.SizeLaws.{size-bounds}
+use Rattle.pattern.proofs.AnswerLaws.{words-enough}
 use Rattle.choice.specs.Record.{Case, caseOf}
 use Rattle.choice.specs.Answer.{chooseRefusal, chooseAnswer}
 use Rattle.depth_bench.specs.Structs.{builtCase}
 
--- 756 words are enough for every allowed size
-enough : (n : ℕ) → sizeOk n ≡ true → needed n ≤ 756
-enough n h = let b = size-bounds n h in mul-le-mul {n₂ = 28} {m₂ = 27} (omega arith) (omega arith)
-
--- so only the size is refused
+-- 756 words are enough, so only the size is refused
 refusal-is : (n : ℕ) (b : Bool) → sizeOk n ≡ b → (listRefusal n (length {A = ℕ} (replicate 756 0)) ≡ 0 → ⊥) → (b ≡ false) × (listRefusal n (length {A = ℕ} (replicate 756 0)) ≡ 1)
 unfolding listRefusal
 refusal-is n true e z =
-    let none : listRefusal n (length {A = ℕ} (replicate 756 0)) ≡ 0 = rw (e, length-replicate {A = ℕ} 756 0, le-leb (needed n) 756 (enough n e)) in
+    let none : listRefusal n (length {A = ℕ} (replicate 756 0)) ≡ 0 = rw (e, length-replicate {A = ℕ} 756 0, le-leb (needed n) 756 (words-enough n e)) in
     absurd (z none)
 refusal-is n false e z = (refl, rw e)
 

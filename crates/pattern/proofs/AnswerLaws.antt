@@ -2,6 +2,8 @@
 use Prim.Native.Nat.{ℕ, _*_, _≤_}
 use mathlib.Core.Bool.{true}
 use mathlib.Core.Path.{_≡_}
+use native.Mathlib.Nat.{mul-le-mul}
+use native.Mathlib.Omega.{arith}
 use borrow.Author.Tests.{eqb-true, leb-true}
 use lib.Dec.{eqb, leb}
 use Rattle.arith.proofs.CheckLaws.{passed}
@@ -38,3 +40,7 @@ samples-fit n samples h =
     let q = passed (eqb samples (n * n)) 1 0 (p .1) in
     let b = size-bounds n (p .0) in
     record { size = p .0; low = b .0; high = b .1; square = eqb-true samples (n * n) (q .0) }
+
+-- 756 words are enough for every allowed size
+pub words-enough : (n : ℕ) → sizeOk n ≡ true → needed n ≤ 756
+words-enough n h = let b = size-bounds n h in mul-le-mul {n₂ = 28} {m₂ = 27} (omega arith) (omega arith)

@@ -14,7 +14,7 @@ use Rattle.record_text.specs.declared.cursor.SizeFields.{SizeFields}
 use Rattle.record_text.specs.Parsed.{Parsed, badForm, found, exactly}
 use Rattle.record_text.specs.Line.{sizeTitle, depthTitle, recordTitle, sizeLine}
 use Rattle.record_text.specs.Lines.{Lined, refusedAt, read, line, linesThen, noMeaning, ended}
-use Rattle.record_text.proofs.LinesLaws.{refused-read, line-parts}
+use Rattle.record_text.proofs.LinesLaws.{refused-read}
 use Rattle.record_file.specs.Reading.{sizeMeaning, headLines, valueLines, tableLines, frontLines}
 use Rattle.record_read.specs.Stored.{only, sizeOnly, PutIf, putOr, TableIf}
 
@@ -60,17 +60,6 @@ module _ (put : List ℕ → List ℕ) (texture : ℕ) (s t : List ℕ) where
       {z : SizeFields} {u : List ℕ} {y : Lined SizeFields} → read z u ≡ headLines texture s → (y ≡ sizeOnly (tableLines z u)) × TableIf put (tableLines z u) t
       → (y ≡ sizeOnly (frontLines texture s)) × TableIf put (frontLines texture s) t
   front-read e h = rw (← e) h
-
--- the size line's numbers are sound
-pub head-sound : (texture : ℕ) (s : List ℕ) {z : SizeFields} {u : List ℕ} → read z u ≡ headLines texture s → sizeMeaning texture z ≡ 0
-head-sound texture s {z} {u} e =
-    let p1 = line-parts 1 noMeaning _ (exactly sizeTitle s) z u (sym e) in
-    let p2 = line-parts 2 (sizeMeaning texture) _ (sizeLine (p1 .rest)) z u (p1 .then) in
-    let p3 = line-parts 3 noMeaning _ (exactly depthTitle (p2 .rest)) z u (p2 .then) in
-    ap (sizeMeaning texture) (sym (same (p3 .then))) ∙ p2 .sound
-  where
-    same : {a b : SizeFields} {s t : List ℕ} → read a s ≡ read b t → a ≡ b
-    same e = cc
 
 -- ---- the records and the end
 

@@ -4,7 +4,6 @@ use mathlib.Core.Path.{_≡_, refl, sym, _∙_, ap, subst}
 use mathlib.Core.Bool.{_||_}
 use mathlib.Core.List.{List, [], _∷_, _++_, map}
 use mathlib.Core.Logic.{_⊎_, inl, inr, ⊎-elim}
-use native.Mathlib.Nat.{div-add-mod', mul-le-mul}
 use native.Mathlib.Omega.{arith}
 use borrow.Author.Tests.{eqb-true}
 use lib.Dec.{eqb}
@@ -34,21 +33,6 @@ use Rattle.record_read.specs.Stored.{only, Slices, putRecords, putOr}
 use Rattle.record_read.specs.Back.{samplesBack}
 use Rattle.record_file.proofs.MeaningLaws.{each-at}
 use Rattle.record_file.proofs.FileLaws.{size-small}
-
--- ---- a sheet has at most 1,024 blocks
-
-per-few : (n w : ℕ) → 4 ≤ n → w ≤ 128 → w / n ≤ 32
-per-few n w h l =
-    let e = div-add-mod' w n in
-    let k = mul-le-mul {n₁ = w / n} {m₁ = 4} {n₂ = w / n} {m₂ = n} (omega arith) h in
-    omega arith
-
-pub blocks-few : (texture : ℕ) (z : SizeFields) → sizeMeaning texture z ≡ 0 → blocksIn z ≤ 1024
-blocks-few texture z h =
-    let s = size-small texture z h in
-    let w = per-few (z .n) (z .width) (s .low) (s .width) in
-    let v = per-few (z .n) (z .height) (s .low) (s .height) in
-    mul-le-mul {n₁ = z .width / z .n} {m₁ = z .height / z .n} {n₂ = 32} {m₂ = 32} w v
 
 -- ---- lines that were read
 

@@ -1,4 +1,3 @@
 -- The proofs of the round trips.
 pub mod LengthLaws
-pub mod RefusalLaws
 pub mod RoundTrips

@@ -22,19 +22,19 @@ use Rattle.sheet.specs.Place.{placedInTurn}
 use Rattle.sheet.proofs.StateLaws.{side-bounds}
 use Rattle.sheet.proofs.InTurnLaws.{whole-same}
 use Rattle.record_text.specs.declared.cursor.RecordFields.{RecordFields}
-use Rattle.record_text.specs.Lines.{read}
+use Rattle.record_text.specs.Lines.{Lined, refusedAt, read}
 use Rattle.record_file.specs.Text.{meant, noRecord, recordAt}
 use Rattle.record_file.specs.Reading.{File, Aids}
 use Rattle.record_file.specs.Writing.{Source, sourceOf, spaceFor, writeRefusal, writtenText, writeAnswer, writeAfter}
 use Rattle.record_file.proofs.FileLaws.{size-small}
+use Rattle.record_file.proofs.LineBounds.{Below, lineEnd, blocks-few, read-below}
 use Rattle.record_file.proofs.RefusalLaws.{accepted-parts, accepted-head, accepted-small}
 use Rattle.record_file.proofs.RoundTrip.{heldBy, sheetOf, written-then-read, read-then-text, read-then-written, read-parts}
 use Rattle.record_read.specs.Stored.{putRecords}
 use Rattle.record_read.specs.Back.{fileBack, emptySheet, materialIn, recordIn, samplesBack, recordsBack, leaving}
-use Rattle.record_read.proofs.RestLaws.{record-back, lent-same, in-turn-ext, blocks-few}
+use Rattle.record_read.proofs.RestLaws.{record-back, lent-same, in-turn-ext}
 use Rattle.round_trip.specs.Law.{Lent, lentRecords, reading, answered, recordsLeft, TextureFits, Enough, placedBy, ReadsBack, WrittenReadsBack, readSource, ReadWritesBack, RoundTrips}
 use Rattle.round_trip.proofs.LengthLaws.{area-lent, text-fits}
-use Rattle.round_trip.proofs.RefusalLaws.{read-numbered, was-read}
 
 -- ---- what is written
 
@@ -183,9 +183,19 @@ module _ (A : Aids) (L : Lent) (F : File) (s t old : List ℕ) (accepted : readi
       let p = read-parts A (length (L .samples)) (lentRecords (L .records)) F s t accepted in
       subst writes (sym table-back) (writes-it (rw (← p .1 .sound .whole) at space))
 
+-- where the answer's refusal is 0, a file was read
+record WasRead (x : Lined File) : Type 0 where
+  file : File
+  rest : List ℕ
+  is : x ≡ read file rest
+
+was-read : (x : Lined File) → Below lineEnd x → fileBack x .refusal ≡ 0 → WasRead x
+was-read (refusedAt n k) h e = absurd (omega (arith, h .0))
+was-read (read F s) h e = record { file = F; rest = s; is = refl }
+
 read-writes : ReadWritesBack
 read-writes A L s old none space =
-    let r = was-read (reading A L s) (read-numbered A (length (L .samples)) (lentRecords (L .records)) s) none in
+    let r = was-read (reading A L s) (read-below A (length (L .samples)) (lentRecords (L .records)) s) none in
     rw (r .is) (writes-back A L (r .file) s (r .rest) old (r .is) (rw (r .is) at space))
 
 -- Both round trips hold.

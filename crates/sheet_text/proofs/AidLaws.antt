@@ -4,7 +4,6 @@ use mathlib.Core.Path.{_≡_, refl, sym, _∙_, ap}
 use mathlib.Core.Bool.{Bool, true, false}
 use mathlib.Core.List.{List, [], _++_}
 use native.Mathlib.Omega.{arith}
-use native.Mathlib.Nat.{mul-le-mul}
 use borrow.Author.Tests.{le-leb}
 use lib.ListN.{length, take, drop, length-append}
 use lib.Seq.{take-at}
@@ -13,7 +12,7 @@ use Rattle.arith.proofs.CheckLaws.{passed, given-means, refused-means}
 use Rattle.pattern.specs.Size.{sizeOk}
 use Rattle.pattern.specs.Wedgelet.{wedgeletList}
 use Rattle.pattern.specs.Answer.{needed, listRefusal, listAnswer, listAfter}
-use Rattle.pattern.proofs.SizeLaws.{size-bounds}
+use Rattle.pattern.proofs.AnswerLaws.{words-enough}
 use Rattle.record_text.specs.Parsed.{badForm, found, exactly}
 use Rattle.record_text.specs.declared.cursor.SizeFields.{SizeFields}
 use Rattle.record_text.specs.Line.{sizeTitle, sizeLine}
@@ -36,10 +35,6 @@ module _ (s : List ℕ) where
   size-found e q = rw (e, q)
 
 -- ---- the list
-
--- 756 words are enough for every allowed size
-words-enough : (n : ℕ) → sizeOk n ≡ true → needed n ≤ 756
-words-enough n h = let b = size-bounds n h in mul-le-mul {n₂ = 28} {m₂ = 27} (omega arith) (omega arith)
 
 module _ (n : ℕ) (old new : List ℕ) (enough : 756 ≤ length old) (after : new ≡ listAfter n old) where
   -- `wedgelets` counted the words

@@ -1,6 +1,5 @@
 -- Laws of what `show` prints.
 pub mod PrintLaws
-pub mod RefusalLaws
 pub mod SampleLaws
 pub mod AidLaws
 pub mod ShowLaws

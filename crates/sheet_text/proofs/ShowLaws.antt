@@ -23,7 +23,7 @@ use Rattle.record_read.specs.Back.{emptySheet, materialIn, recordIn, samplesBac
 use Rattle.sheet_text.specs.Printed.{sheetText}
 use Rattle.sheet_text.specs.Showing.{sizeIn, aidsFor, samplesIn, textBy, readWith, shownText, showSpace, showRefusal, showAnswer, showAfter}
 use Rattle.sheet_text.proofs.PrintLaws.{sheet-same}
-use Rattle.sheet_text.proofs.RefusalLaws.{Below, lineEnd, read-below}
+use Rattle.record_file.proofs.LineBounds.{Below, lineEnd, read-below}
 use Rattle.sheet_text.proofs.SampleLaws.{file-fits, text-short}
 
 -- ---- what reading answered

@@ -7,7 +7,8 @@ use Rattle.record_text.specs.Told.{remaining}
 use Rattle.record_file.specs.Reading.{headLines}
 use Rattle.record_read.specs.Stored.{sizeBackTold}
 use Rattle.record_file.proofs.FileLaws.{size-small}
-use Rattle.record_read.proofs.PartLaws.{front-refused, front-read, head-sound}
+use Rattle.record_file.proofs.LineBounds.{head-sound}
+use Rattle.record_read.proofs.PartLaws.{front-refused, front-read}
 use Rattle.record_read.proofs.front.read_front.Statement.{statement}
 use Rattle.record_read.proofs.front.read_front.Tie as tie
 
@@ -28,7 +29,7 @@ read-table-requires : tie.Need-read-table-requires
 read-table-requires c κs =
     let z = c .before .before in
     let a = z .before .before .before .before .before .args in
-    (size-small (a .texture) (z .z .given .0 .0) (head-sound (a .texture) (a .bytes .now) (head z)) .values, z .before .before .before .before .before .pre)
+    (size-small (a .texture) (z .z .given .0 .0) (head-sound (a .texture) (a .bytes .now) _ _ (sym (head z))) .values, z .before .before .before .before .before .pre)
 
 returns : tie.Need-returns
 returns c =

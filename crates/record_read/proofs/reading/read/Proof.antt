@@ -12,7 +12,7 @@ use Rattle.record_file.specs.Reading.{File, Aids, aidsOf, fileLines, readLength
 use Rattle.record_read.specs.Stored.{sizeBackTold}
 use Rattle.record_read.specs.Back.{fileBack, samplesBack, recordsBack, leaving}
 use Rattle.record_file.proofs.RoundTrip.{read-lengths}
-use Rattle.record_read.proofs.RestLaws.{blocks-few}
+use Rattle.record_file.proofs.LineBounds.{blocks-few}
 use Rattle.record_read.proofs.BackLaws.{read-short, read-passed, file-no, FrontRead, front-is, back-is, kept-is, drawn-is, all-refused}
 use Rattle.record_read.proofs.reading.read.Statement.{statement}
 use Rattle.record_read.proofs.reading.read.Tie as tie

@@ -16,7 +16,8 @@ use Rattle.record_read.specs.Stored.{linesTold, only, Slices, putRecords
 use Rattle.record_read.specs.Back.{samplesBack}
 use Rattle.record_file.proofs.FileLaws.{size-small}
 use Rattle.record_read.proofs.PartLaws.{only-refused}
-use Rattle.record_read.proofs.RestLaws.{OnlyRead, only-read, RestRead, rest-read, record-back, blocks-few, lent-same, rest-accepted, rest-drawn, put-read, put-refused}
+use Rattle.record_file.proofs.LineBounds.{blocks-few}
+use Rattle.record_read.proofs.RestLaws.{OnlyRead, only-read, RestRead, rest-read, record-back, lent-same, rest-accepted, rest-drawn, put-read, put-refused}
 use Rattle.record_read.proofs.reading.read_rest.Statement.{statement}
 use Rattle.record_read.proofs.reading.read_rest.Tie as tie
 

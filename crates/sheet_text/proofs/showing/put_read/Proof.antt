@@ -13,7 +13,7 @@ use Rattle.record_file.specs.Reading.{File, Aids, aidsOf, readFile}
 use Rattle.record_read.specs.Back.{samplesBack, fileBack, leaving}
 use Rattle.sheet_text.specs.Showing.{textBy, readWith}
 use Rattle.sheet_text.proofs.PrintLaws.{refusal-short}
-use Rattle.sheet_text.proofs.RefusalLaws.{read-below}
+use Rattle.record_file.proofs.LineBounds.{read-below}
 use Rattle.sheet_text.proofs.ShowLaws.{lent-read, back-refused, back-line, SheetBack, take-zeros, back-read}
 use Rattle.sheet_text.proofs.showing.put_read.Statement.{statement}
 use Rattle.sheet_text.proofs.showing.put_read.Tie as tie

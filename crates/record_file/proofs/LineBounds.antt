@@ -1,7 +1,9 @@
--- The refusals of reading: none has the number 0, and their lines go no further than a file of 256 values and 1,024 records does. Assumes nothing.
-use Prim.Native.Nat.{ℕ, zero, suc, _+_, _≤_, _<_}
+-- How far a file goes: its blocks, and the refusals of reading, of which none has the number 0 or a line past those of 256 values and
+-- 1,024 records. Assumes nothing.
+use Prim.Native.Nat.{ℕ, zero, suc, _+_, _/_, _≤_, _<_}
 use mathlib.Core.Path.{_≡_, refl, sym, _∙_, ap}
 use mathlib.Core.List.{List, [], _∷_}
+use native.Mathlib.Nat.{div-add-mod', mul-le-mul}
 use native.Mathlib.Omega.{arith}
 use lib.ListN.{length}
 use Rattle.arith.specs.Checks.{unless}
@@ -10,9 +12,25 @@ use Rattle.record_text.specs.Parsed.{Parsed, Parser, badForm, found, exactly}
 use Rattle.record_text.specs.Line.{sizeTitle, depthTitle, recordTitle, sizeLine, valueLine, recordLine}
 use Rattle.record_text.specs.Lines.{Lined, refusedAt, read, judged, line, linesThen, noMeaning, manyLines, ended}
 use Rattle.record_text.proofs.LinesLaws.{line-parts}
 use Rattle.record_file.specs.Reading.{Aids, sizeMeaning, valueMeaning, lowAfter, recordMeaning, unchanged, valueLines, recordLines, headLines, tableLines, frontLines, blocksIn, restLines, fileLines, readLengthsOk, readFile}
 use Rattle.record_file.proofs.FileLaws.{size-small, front-parts}
-use Rattle.record_read.proofs.RestLaws.{blocks-few}
+
+-- ---- a sheet has at most 1,024 blocks
+
+per-few : (n w : ℕ) → 4 ≤ n → w ≤ 128 → w / n ≤ 32
+per-few n w h l =
+    let e = div-add-mod' w n in
+    let k = mul-le-mul {n₁ = w / n} {m₁ = 4} {n₂ = w / n} {m₂ = n} (omega arith) h in
+    omega arith
+
+pub blocks-few : (texture : ℕ) (z : SizeFields) → sizeMeaning texture z ≡ 0 → blocksIn z ≤ 1024
+blocks-few texture z h =
+    let s = size-small texture z h in
+    let w = per-few (z .n) (z .width) (s .low) (s .width) in
+    let v = per-few (z .n) (z .height) (s .low) (s .height) in
+    mul-le-mul {n₁ = z .width / z .n} {m₁ = z .height / z .n} {n₂ = 32} {m₂ = 32} w v
+
+-- ---- refusals
 
 -- a refusal with a number other than 0 at a line below b
 abbrev pub Below : {A : Type 0} → ℕ → Lined A → Type 0
