@@ -23,6 +23,10 @@ use Rattle.sheet.proofs.TurnLaws.{after-end, open-after, Going}
 
 -- ---- what holds in a turn
 
+-- a record yet missing has a place in a lent slice with room for all of them
+pub room : {k missed lent₀ lent : ℕ} → k < missed → missed ≤ lent₀ → lent ≡ lent₀ → k < lent
+room h l e = omega arith
+
 -- the state has a block to place, and what is lent fits it
 pub record Turn (S : Sheet) (T : Task) (state : Sheet) (samples : List ℕ) : Type 0 where
   pub is-open : Open state

@@ -12,7 +12,7 @@ slice-aggregate-wedgelets : tie.Need-slice-aggregate-wedgelets
 slice-aggregate-wedgelets c = search needs
 
 wedgelets-requires : tie.Need-wedgelets-requires
-wedgelets-requires c κs = search needs
+wedgelets-requires c κs = tt
 
 enum-known-built : tie.Need-enum-known-built
 enum-known-built c = search needs
@@ -21,16 +21,16 @@ slice-aggregate-choose : tie.Need-slice-aggregate-choose
 slice-aggregate-choose c = search needs
 
 choose-requires : tie.Need-choose-requires
-choose-requires c κs = search needs
+choose-requires c κs = tt
 
 told-requires : tie.Need-told-requires
-told-requires c κs = search needs
+told-requires c κs = tt
 
 enum-known-built-2 : tie.Need-enum-known-built-2
 enum-known-built-2 c = search needs
 
 refused-requires : tie.Need-refused-requires
-refused-requires c κs = search needs
+refused-requires c κs = tt
 
 returns : tie.Need-returns
 returns c =

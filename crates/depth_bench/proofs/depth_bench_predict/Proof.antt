@@ -9,7 +9,7 @@ use Rattle.depth_bench.proofs.depth_bench_predict.Statement.{statement}
 use Rattle.depth_bench.proofs.depth_bench_predict.Tie as tie
 
 predict-requires : tie.Need-predict-requires
-predict-requires c κs = search needs
+predict-requires c κs = tt
 
 enum-known-answer : tie.Need-enum-known-answer
 enum-known-answer c = search needs
@@ -18,7 +18,7 @@ enum-known-answer-2 : tie.Need-enum-known-answer-2
 enum-known-answer-2 c = search needs
 
 wide-requires : tie.Need-wide-requires
-wide-requires c κs = search needs
+wide-requires c κs = tt
 
 same-length : tie.Need-same-length
 same-length c = search needs

@@ -5,7 +5,6 @@ use Rattle.choice.specs.Answer.{chooseRefusal}
 use Rattle.choice.specs.Tally.{PickedOf}
 use Rattle.choice.proofs.AcceptLaws.{accepted}
 use Rattle.choice.proofs.AnswerLaws.{picked-small, told-refused, told-given, told-least}
-use borrow.Author.Needs.{needs}
 use Rattle.choice.proofs.answer.choose.Statement.{statement}
 use Rattle.choice.proofs.answer.choose.Tie as tie
 
@@ -16,7 +15,7 @@ given c =
     caseOf (a .n) (a .list .now) (a .count) (a .border .now) (a .original .now) (a .table .now) (a .reach) (a .texture .now)
 
 choose-refusal-requires : tie.Need-choose-refusal-requires
-choose-refusal-requires c κs = search needs
+choose-refusal-requires c κs = tt
 
 returns : tie.Need-returns
 returns c =
@@ -25,7 +24,7 @@ returns c =
     (e, told-least C e)
 
 wide-requires : tie.Need-wide-requires
-wide-requires c κs = search needs
+wide-requires c κs = tt
 
 best-pattern-requires : tie.Need-best-pattern-requires
 best-pattern-requires c κs = rw (c .wide .ensures) (sym (c .before .before .choose-refusal .ensures) ∙ c .before .if1 .left)

@@ -1,12 +1,11 @@
 -- `belongs_to` meets its contract: the mark, or its opposite.
-use borrow.Author.Needs.{needs}
 use mathlib.Core.Bool.{not}
 use mathlib.Core.Path.{ap, _∙_}
 use Rattle.choice.proofs.partition.belongs_to.Statement.{statement}
 use Rattle.choice.proofs.partition.belongs_to.Tie as tie
 
 mark-at-requires : tie.Need-mark-at-requires
-mark-at-requires c κs = search needs
+mark-at-requires c κs = tt
 
 returns : tie.Need-returns
 returns c = c .before .mark-at .ensures ∙ rw (c .if1 .taken)

@@ -52,10 +52,10 @@ mul-high : tie.Need-mul-high Inv-loop μ-loop
 mul-high c = search needs
 
 better-requires : tie.Need-better-requires Inv-loop μ-loop
-better-requires c κs = search needs
+better-requires c κs = tt
 
 better-requires-2 : tie.Need-better-requires-2 Inv-loop μ-loop
-better-requires-2 c κs = search needs
+better-requires-2 c κs = tt
 
 add-k : tie.Need-add-k Inv-loop μ-loop
 add-k c = search needs

@@ -1,15 +1,14 @@
 -- `best_offset` meets its contract: the costs by value, read at the clamped index, are those at the offsets. Assumes nothing.
 use native.Mathlib.Omega.{arith}
 use Rattle.choice.proofs.WeighLaws.{few-samples, index-in, trial-weighed}
-use borrow.Author.Needs.{needs}
 use Rattle.choice.proofs.partition.best_offset.Statement.{statement}
 use Rattle.choice.proofs.partition.best_offset.Tie as tie
 
 side-depth-requires : tie.Need-side-depth-requires
-side-depth-requires c κs = search needs
+side-depth-requires c κs = tt
 
 nearest-index-requires : tie.Need-nearest-index-requires
-nearest-index-requires c κs = search needs
+nearest-index-requires c κs = tt
 
 side-costs-requires : tie.Need-side-costs-requires
 side-costs-requires c κs =

@@ -4,7 +4,6 @@ use borrow.Author.Tests.{not-true, not-false}
 use Rattle.pattern.proofs.SizeLaws.{size-bounds}
 use Rattle.choice.specs.Record.{Case, caseOf}
 use Rattle.choice.proofs.AcceptLaws.{lengths-are, refused-size, refused-length, refused-rest}
-use borrow.Author.Needs.{needs}
 use Rattle.choice.proofs.refusal.choose_refusal.Statement.{statement}
 use Rattle.choice.proofs.refusal.choose_refusal.Tie as tie
 
@@ -15,7 +14,7 @@ given c =
     caseOf (a .n) (a .list .now) (a .count) (a .border .now) (a .original .now) (a .table .now) (a .reach) (a .texture .now)
 
 size-ok-requires : tie.Need-size-ok-requires
-size-ok-requires c κs = search needs
+size-ok-requires c κs = tt
 
 returns : tie.Need-returns
 returns c = refused-size (given (c .before .before .before .before .before .before .before)) (sym (c .before .size-ok .ensures) ∙ not-true _ (c .if1 .taken))
@@ -27,25 +26,25 @@ returns-2 : tie.Need-returns-2
 returns-2 c = refused-length (given (c .before .before .before .before .before .before .before .before .before)) (sym (c .before .before .before .size-ok .ensures) ∙ not-false _ (c .before .before .if1 .left)) (sym (c .before .lengths-ok .ensures) ∙ not-true _ (c .if2 .taken))
 
 some-pattern-requires : tie.Need-some-pattern-requires
-some-pattern-requires c κs = search needs
+some-pattern-requires c κs = tt
 
 check-requires : tie.Need-check-requires
-check-requires c κs = search needs
+check-requires c κs = tt
 
 check-requires-2 : tie.Need-check-requires-2
-check-requires-2 c κs = search needs
+check-requires-2 c κs = tt
 
 words-ok-requires : tie.Need-words-ok-requires
 words-ok-requires c κs = lengths-are _ _ _ _ _ _ (sym (c .before .before .before .before .lengths-ok .ensures) ∙ not-false _ (c .before .before .before .if2 .left)) .inside
 
 check-requires-3 : tie.Need-check-requires-3
-check-requires-3 c κs = search needs
+check-requires-3 c κs = tt
 
 is-table-requires : tie.Need-is-table-requires
-is-table-requires c κs = search needs
+is-table-requires c κs = tt
 
 check-requires-4 : tie.Need-check-requires-4
-check-requires-4 c κs = search needs
+check-requires-4 c κs = tt
 
 returns-3 : tie.Need-returns-3
 returns-3 c =

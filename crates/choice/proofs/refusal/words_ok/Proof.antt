@@ -28,7 +28,7 @@ shared-slice-read-word-ok : tie.Need-shared-slice-read-word-ok Inv-loop μ-loop
 shared-slice-read-word-ok c = search needs
 
 word-ok-requires : tie.Need-word-ok-requires Inv-loop μ-loop
-word-ok-requires c κs = search needs
+word-ok-requires c κs = tt
 
 returns : tie.Need-returns Inv-loop μ-loop
 returns c =

@@ -37,7 +37,7 @@ contour-or-none-requires : tie.Need-contour-or-none-requires Inv-loop μ-loop
 contour-or-none-requires c κs = let k = fine (c .before .before .before .before .before) in texture-judged _ _ (k .size) (k .lengths .optional)
 
 last-pattern-requires : tie.Need-last-pattern-requires Inv-loop μ-loop
-last-pattern-requires c κs = search needs
+last-pattern-requires c κs = tt
 
 add-end : tie.Need-add-end Inv-loop μ-loop
 add-end c = omega (arith, room (c .before .before .before .before .before .before .before) (c .last-pattern .ensures))

@@ -1,6 +1,5 @@
 -- `block_of` meets its contract. Assumes nothing.
 use mathlib.Core.Path.{_≡_, sym, _∙_}
-use borrow.Author.Needs.{needs}
 use lib.ListN.{length, replicate}
 use Rattle.arith.proofs.CheckLaws.{lent-refused, lent-given}
 use Rattle.pattern.specs.Answer.{samplesRefusal, blockAnswer}
@@ -10,7 +9,7 @@ use Rattle.pattern.proofs.block.block_of.Statement.{statement}
 use Rattle.pattern.proofs.block.block_of.Tie as tie
 
 samples-refusal-requires : tie.Need-samples-refusal-requires
-samples-refusal-requires c κs = search needs
+samples-refusal-requires c κs = tt
 
 returns : tie.Need-returns
 unfolding blockAnswer

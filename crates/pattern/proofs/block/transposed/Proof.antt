@@ -1,7 +1,6 @@
 -- `transposed` meets its contract. Assumes nothing.
 use mathlib.Core.Bool.{true, false}
 use mathlib.Core.Path.{_≡_, sym, _∙_}
-use borrow.Author.Needs.{needs}
 use borrow.Author.Tests.{not-true, not-false}
 use Rattle.pattern.specs.Size.{sizeOk}
 use Rattle.pattern.specs.Answer.{transposedAnswer}
@@ -10,7 +9,7 @@ use Rattle.pattern.proofs.block.transposed.Statement.{statement}
 use Rattle.pattern.proofs.block.transposed.Tie as tie
 
 size-ok-requires : tie.Need-size-ok-requires
-size-ok-requires c κs = search needs
+size-ok-requires c κs = tt
 
 returns : tie.Need-returns
 unfolding transposedAnswer

@@ -10,7 +10,7 @@ use Rattle.pattern.proofs.block.write_block.Statement.{statement}
 use Rattle.pattern.proofs.block.write_block.Tie as tie
 
 samples-refusal-requires : tie.Need-samples-refusal-requires
-samples-refusal-requires c κs = search needs
+samples-refusal-requires c κs = tt
 
 returns : tie.Need-returns
 unfolding samplesAfter

@@ -28,7 +28,7 @@ shared-slice-read-wide : tie.Need-shared-slice-read-wide Inv-loop μ-loop
 shared-slice-read-wide c = omega arith
 
 wide-requires : tie.Need-wide-requires Inv-loop μ-loop
-wide-requires c κs = search needs
+wide-requires c κs = tt
 
 with-bit-requires : tie.Need-with-bit-requires Inv-loop μ-loop
 with-bit-requires c κs = (

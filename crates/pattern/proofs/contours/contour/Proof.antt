@@ -2,7 +2,6 @@
 use Prim.Native.Nat.{ℕ, _*_}
 use mathlib.Core.Path.{_≡_, sym, ap, _∙_}
 use native.Mathlib.Omega.{arith}
-use borrow.Author.Needs.{needs}
 use lib.Dec.{ltb}
 use lib.ListN.{length, getD}
 use Rattle.arith.specs.Bits.{bits}
@@ -15,7 +14,7 @@ use Rattle.pattern.proofs.contours.contour.Statement.{statement}
 use Rattle.pattern.proofs.contours.contour.Tie as tie
 
 samples-refusal-requires : tie.Need-samples-refusal-requires
-samples-refusal-requires c κs = search needs
+samples-refusal-requires c κs = tt
 
 returns : tie.Need-returns
 unfolding contourAnswer

@@ -28,7 +28,7 @@ shared-slice-read-wide : tie.Need-shared-slice-read-wide Inv-loop μ-loop
 shared-slice-read-wide c = omega arith
 
 wide-requires : tie.Need-wide-requires Inv-loop μ-loop
-wide-requires c κs = search needs
+wide-requires c κs = tt
 
 add-sum : tie.Need-add-sum Inv-loop μ-loop
 add-sum c = omega (arith, square-64 (c .before .before .before .before .before .pre .1))

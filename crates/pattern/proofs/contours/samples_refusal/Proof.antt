@@ -2,7 +2,6 @@
 use mathlib.Core.Bool.{true, false}
 use mathlib.Core.Path.{_≡_, sym, _∙_}
 use native.Mathlib.Omega.{arith}
-use borrow.Author.Needs.{needs}
 use borrow.Author.Tests.{not-true, not-false, eq-eqb, ne-eqb}
 use Rattle.pattern.specs.Size.{sizeOk}
 use Rattle.pattern.specs.Answer.{samplesRefusal}
@@ -11,7 +10,7 @@ use Rattle.pattern.proofs.contours.samples_refusal.Statement.{statement
 use Rattle.pattern.proofs.contours.samples_refusal.Tie as tie
 
 size-ok-requires : tie.Need-size-ok-requires
-size-ok-requires c κs = search needs
+size-ok-requires c κs = tt
 
 returns : tie.Need-returns
 unfolding samplesRefusal

@@ -4,7 +4,6 @@ use mathlib.Core.Bool.{true, false}
 use mathlib.Core.Path.{_≡_, sym, _∙_}
 use native.Mathlib.Nat.{mul-le-mul}
 use native.Mathlib.Omega.{arith}
-use borrow.Author.Needs.{needs}
 use borrow.Author.Tests.{not-true, not-false, le-leb, lt-leb}
 use Rattle.pattern.specs.Size.{sizeOk}
 use Rattle.pattern.specs.Answer.{needed, listRefusal}
@@ -13,7 +12,7 @@ use Rattle.pattern.proofs.wedgelet.list_refusal.Statement.{statement}
 use Rattle.pattern.proofs.wedgelet.list_refusal.Tie as tie
 
 size-ok-requires : tie.Need-size-ok-requires
-size-ok-requires c κs = search needs
+size-ok-requires c κs = tt
 
 returns : tie.Need-returns
 unfolding listRefusal

@@ -13,7 +13,7 @@ use Rattle.pattern.proofs.wedgelet.wedgelets.Statement.{statement}
 use Rattle.pattern.proofs.wedgelet.wedgelets.Tie as tie
 
 list-refusal-requires : tie.Need-list-refusal-requires
-list-refusal-requires c κs = search needs
+list-refusal-requires c κs = tt
 
 returns : tie.Need-returns
 unfolding listAnswer listAfter

@@ -42,7 +42,7 @@ add-read-digits-2 : tie.Need-add-read-digits-2
 add-read-digits-2 c = search needs
 
 wide-requires : tie.Need-wide-requires
-wide-requires c κs = search needs
+wide-requires c κs = tt
 
 read-digits-requires-2 : tie.Need-read-digits-requires-2
 read-digits-requires-2 c κs = omega (arith, c .wide .ensures)

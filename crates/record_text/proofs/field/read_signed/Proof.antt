@@ -38,7 +38,7 @@ add-t18 : tie.Need-add-t18
 add-t18 c = search needs
 
 read-number-requires : tie.Need-read-number-requires
-read-number-requires c κs = search needs
+read-number-requires c κs = tt
 
 enum-known-n : tie.Need-enum-known-n
 enum-known-n c = search needs
@@ -55,7 +55,7 @@ enum-told : tie.Need-enum-told
 enum-told c = search needs
 
 read-number-requires-2 : tie.Need-read-number-requires-2
-read-number-requires-2 c κs = search needs
+read-number-requires-2 c κs = tt
 
 enum-known-n-2 : tie.Need-enum-known-n-2
 enum-known-n-2 c = search needs

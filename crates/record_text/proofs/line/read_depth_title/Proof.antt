@@ -8,7 +8,7 @@ slice-aggregate-read-text : tie.Need-slice-aggregate-read-text
 slice-aggregate-read-text c = search needs
 
 read-text-requires : tie.Need-read-text-requires
-read-text-requires c κs = search needs
+read-text-requires c κs = tt
 
 returns : tie.Need-returns
 unfolding depthTitle

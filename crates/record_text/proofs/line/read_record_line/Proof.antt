@@ -45,7 +45,7 @@ off1-found :
 off1-found c = sym (c .before .before .read-signed2 .ensures) ∙ ap (signedTold _) (c .d .given .1)
 
 read-number-requires : tie.Need-read-number-requires
-read-number-requires c κs = search needs
+read-number-requires c κs = tt
 
 enum-known-a : tie.Need-enum-known-a
 enum-known-a c = search needs
@@ -60,7 +60,7 @@ returns c =
     rw e1
 
 read-number-requires-2 : tie.Need-read-number-requires-2
-read-number-requires-2 c κs = search needs
+read-number-requires-2 c κs = tt
 
 enum-known-b : tie.Need-enum-known-b
 enum-known-b c = search needs
@@ -76,7 +76,7 @@ returns-2 c =
     rw (f1, e2)
 
 read-signed-requires : tie.Need-read-signed-requires
-read-signed-requires c κs = search needs
+read-signed-requires c κs = tt
 
 enum-known-c : tie.Need-enum-known-c
 enum-known-c c = search needs
@@ -93,7 +93,7 @@ returns-3 c =
     rw (f1, entry-found b, e3)
 
 read-signed-requires-2 : tie.Need-read-signed-requires-2
-read-signed-requires-2 c κs = search needs
+read-signed-requires-2 c κs = tt
 
 enum-known-d : tie.Need-enum-known-d
 enum-known-d c = search needs

@@ -42,7 +42,7 @@ values-found :
 values-found c = sym (c .before .before .read-number4 .ensures) ∙ ap (numberTold _) (c .d .given .1)
 
 read-number-requires : tie.Need-read-number-requires
-read-number-requires c κs = search needs
+read-number-requires c κs = tt
 
 enum-known-a : tie.Need-enum-known-a
 enum-known-a c = search needs
@@ -57,7 +57,7 @@ returns c =
     rw e1
 
 read-number-requires-2 : tie.Need-read-number-requires-2
-read-number-requires-2 c κs = search needs
+read-number-requires-2 c κs = tt
 
 enum-known-b : tie.Need-enum-known-b
 enum-known-b c = search needs
@@ -73,7 +73,7 @@ returns-2 c =
     rw (f1, e2)
 
 read-number-requires-3 : tie.Need-read-number-requires-3
-read-number-requires-3 c κs = search needs
+read-number-requires-3 c κs = tt
 
 enum-known-c : tie.Need-enum-known-c
 enum-known-c c = search needs
@@ -90,7 +90,7 @@ returns-3 c =
     rw (f1, width-found b, e3)
 
 read-number-requires-4 : tie.Need-read-number-requires-4
-read-number-requires-4 c κs = search needs
+read-number-requires-4 c κs = tt
 
 enum-known-d : tie.Need-enum-known-d
 enum-known-d c = search needs

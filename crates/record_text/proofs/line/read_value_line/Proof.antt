@@ -1,11 +1,10 @@
 -- `read_value_line` meets its contract: it is a number and the line's end. Assumes nothing.
-use borrow.Author.Needs.{needs}
 use Rattle.record_text.specs.Line.{valueLine}
 use Rattle.record_text.proofs.line.read_value_line.Statement.{statement}
 use Rattle.record_text.proofs.line.read_value_line.Tie as tie
 
 read-number-requires : tie.Need-read-number-requires
-read-number-requires c κs = search needs
+read-number-requires c κs = tt
 
 returns : tie.Need-returns
 unfolding valueLine

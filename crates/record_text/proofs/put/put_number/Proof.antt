@@ -14,7 +14,7 @@ use Rattle.record_text.proofs.put.put_number.Statement.{statement}
 use Rattle.record_text.proofs.put.put_number.Tie as tie
 
 number-printable-requires : tie.Need-number-printable-requires
-number-printable-requires c κs = search needs
+number-printable-requires c κs = tt
 
 -- past the test
 printable : (c : tie.Else1) → numberPrintable (c .before .before .before .args .x) ≡ true
@@ -47,7 +47,7 @@ slice-aggregate-put-text c =
     made-length {k = 8} (w .write-number .ensures) (short w)
 
 put-text-requires : tie.Need-put-text-requires
-put-text-requires c κs = search needs
+put-text-requires c κs = tt
 
 same-length : tie.Need-same-length
 same-length c = search needs

@@ -27,7 +27,7 @@ printable c =
     ap signedPrintable (sym (itself (c .before .before .before))) ∙ sym (c .before .signed-printable .ensures) ∙ not-false _ (c .if1 .left)
 
 signed-printable-requires : tie.Need-signed-printable-requires
-signed-printable-requires c κs = search needs
+signed-printable-requires c κs = tt
 
 returns : tie.Need-returns
 returns c =
@@ -62,7 +62,7 @@ slice-aggregate-put-text : tie.Need-slice-aggregate-put-text
 slice-aggregate-put-text c = let w = c .before .before .before in made-length (made w) (short w)
 
 put-text-requires : tie.Need-put-text-requires
-put-text-requires c κs = search needs
+put-text-requires c κs = tt
 
 same-length : tie.Need-same-length
 same-length c = search needs

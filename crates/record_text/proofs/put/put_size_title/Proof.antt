@@ -8,7 +8,7 @@ slice-aggregate-put-text : tie.Need-slice-aggregate-put-text
 slice-aggregate-put-text c = search needs
 
 put-text-requires : tie.Need-put-text-requires
-put-text-requires c κs = search needs
+put-text-requires c κs = tt
 
 same-length : tie.Need-same-length
 same-length c = search needs

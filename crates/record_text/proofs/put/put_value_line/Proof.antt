@@ -5,7 +5,7 @@ use Rattle.record_text.proofs.put.put_value_line.Statement.{statement}
 use Rattle.record_text.proofs.put.put_value_line.Tie as tie
 
 put-number-requires : tie.Need-put-number-requires
-put-number-requires c κs = search needs
+put-number-requires c κs = tt
 
 same-length : tie.Need-same-length
 same-length c = search needs

@@ -18,7 +18,7 @@ printable : (c : tie.Else1) → recordPrintable (c .before .before .before .args
 printable c = sym (c .before .record-printable .ensures) ∙ not-false _ (c .if1 .left)
 
 record-printable-requires : tie.Need-record-printable-requires
-record-printable-requires c κs = search needs
+record-printable-requires c κs = tt
 
 returns : tie.Need-returns
 returns c = put-unprintable _ _ _ _ (sym (c .before .record-printable .ensures) ∙ not-true _ (c .if1 .taken))
@@ -41,7 +41,7 @@ slice-aggregate-put-text : tie.Need-slice-aggregate-put-text
 slice-aggregate-put-text c = let w = c .before .before .before in made-length {k = 64} (w .write-record .ensures) (short w)
 
 put-text-requires : tie.Need-put-text-requires
-put-text-requires c κs = search needs
+put-text-requires c κs = tt
 
 same-length : tie.Need-same-length
 same-length c = search needs

@@ -18,7 +18,7 @@ printable : (c : tie.Else1) → sizePrintable (c .before .before .before .args .
 printable c = sym (c .before .size-printable .ensures) ∙ not-false _ (c .if1 .left)
 
 size-printable-requires : tie.Need-size-printable-requires
-size-printable-requires c κs = search needs
+size-printable-requires c κs = tt
 
 returns : tie.Need-returns
 returns c = put-unprintable _ _ _ _ (sym (c .before .size-printable .ensures) ∙ not-true _ (c .if1 .taken))
@@ -41,7 +41,7 @@ slice-aggregate-put-text : tie.Need-slice-aggregate-put-text
 slice-aggregate-put-text c = let w = c .before .before .before in made-length {k = 64} (w .write-size .ensures) (short w)
 
 put-text-requires : tie.Need-put-text-requires
-put-text-requires c κs = search needs
+put-text-requires c κs = tt
 
 same-length : tie.Need-same-length
 same-length c = search needs

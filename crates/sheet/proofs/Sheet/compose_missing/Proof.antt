@@ -1,6 +1,7 @@
 -- `compose_missing` meets its contract: the loop keeps `Going`.
 use Prim.Native.Nat.{_+_, _-_, _≤_, _<_}
 use mathlib.Core.Path.{_≡_, refl, sym, ap, _∙_}
+use native.Mathlib.Nat.{lt-of-lt-of-le}
 use native.Mathlib.Omega.{arith}
 use borrow.Author.Needs.{needs}
 use lib.ListN.{length, length-set}
@@ -12,7 +13,7 @@ use Rattle.sheet.specs.Place.{materialOf}
 use Rattle.sheet.specs.Compose.{missing, Task, taskOf, composeCase, choiceRefusal}
 use Rattle.sheet.proofs.PlaceLaws.{length-placed}
 use Rattle.sheet.proofs.TurnLaws.{Going, going-none, going-more}
-use Rattle.sheet.proofs.TurnEnds.{Turn, turn, turn-refused, turn-none, turn-chosen, turn-placed, left-refused, left-all, told-all}
+use Rattle.sheet.proofs.TurnEnds.{room, Turn, turn, turn-refused, turn-none, turn-chosen, turn-placed, left-refused, left-all, told-all}
 use Rattle.sheet.proofs.Sheet.compose_missing.Statement.{statement}
 use Rattle.sheet.proofs.Sheet.compose_missing.Tie as tie
 
@@ -88,25 +89,25 @@ store-requires c κs =
     let l = c .before .before .before .before .before .before .before .before .before .before .before .before .before in
     let d = begin (l .before) in
     let i = l .before .loop .inv in
-    (omega (arith, more l, d .pre .kinds-room, i .3), omega (arith, more l, d .pre .entries-room, i .4), omega (arith, more l, d .pre .offs0-room, i .5), omega (arith, more l, d .pre .offs1-room, i .6))
+    (room (more l) (d .pre .kinds-room) (i .3), room (more l) (d .pre .entries-room) (i .4), room (more l) (d .pre .offs0-room) (i .5), room (more l) (d .pre .offs1-room) (i .6))
 
 enum-known-number : tie.Need-enum-known-number Inv-loop μ-loop
 enum-known-number c = search needs
 
 same-length : tie.Need-same-length Inv-loop μ-loop
-same-length c = search needs
+same-length c = c .before .before .before .before .before .before .loop .inv .2
 
 same-length-2 : tie.Need-same-length-2 Inv-loop μ-loop
-same-length-2 c = search needs
+same-length-2 c = c .before .before .before .before .before .before .loop .inv .3
 
 same-length-3 : tie.Need-same-length-3 Inv-loop μ-loop
-same-length-3 c = search needs
+same-length-3 c = c .before .before .before .before .before .before .loop .inv .4
 
 same-length-4 : tie.Need-same-length-4 Inv-loop μ-loop
-same-length-4 c = search needs
+same-length-4 c = c .before .before .before .before .before .before .loop .inv .5
 
 same-length-5 : tie.Need-same-length-5 Inv-loop μ-loop
-same-length-5 c = search needs
+same-length-5 c = c .before .before .before .before .before .before .loop .inv .6
 
 returns : tie.Need-returns Inv-loop μ-loop
 returns c =
@@ -137,14 +138,14 @@ loop-again c =
       omega (arith, l .loop-test .taken),
       ap length (placed .1) ∙ length-placed _ _ _ _ ∙ i .2,
       ap length (stored .0) ∙ simp length-set (i .3),
-      search needs,
-      search needs,
-      search needs,
+      ap length (stored .1 .0) ∙ simp length-set (i .4),
+      ap length (stored .1 .1 .0) ∙ simp length-set (i .5),
+      ap length (stored .1 .1 .1) ∙ simp length-set (i .6),
       rw e (going-more (a .self) (task d) (a .samples .now) (a .kinds .now) (a .entries .now) (a .offs0 .now) (a .offs1 .now) (recordTold (best .best .given .0 .0)) (i .7)
-          (omega (arith, more l, d .pre .kinds-room))
-          (omega (arith, more l, d .pre .entries-room))
-          (omega (arith, more l, d .pre .offs0-room))
-          (omega (arith, more l, d .pre .offs1-room))
+          (lt-of-lt-of-le (more l) (d .pre .kinds-room))
+          (lt-of-lt-of-le (more l) (d .pre .entries-room))
+          (lt-of-lt-of-le (more l) (d .pre .offs0-room))
+          (lt-of-lt-of-le (more l) (d .pre .offs1-room))
           (turn-none (this l) (told best))
           (turn-chosen (this l) (told best))
           (placed .0)
@@ -159,19 +160,19 @@ sub-t36 : tie.Need-sub-t36 Inv-loop μ-loop
 sub-t36 c = omega (arith, begin (c .before) .pre .is-open .missing, c .before .before .blocks2 .ensures)
 
 same-length-6 : tie.Need-same-length-6 Inv-loop μ-loop
-same-length-6 c = search needs
+same-length-6 c = c .before .loop .inv .2
 
 same-length-7 : tie.Need-same-length-7 Inv-loop μ-loop
-same-length-7 c = search needs
+same-length-7 c = c .before .loop .inv .3
 
 same-length-8 : tie.Need-same-length-8 Inv-loop μ-loop
-same-length-8 c = search needs
+same-length-8 c = c .before .loop .inv .4
 
 same-length-9 : tie.Need-same-length-9 Inv-loop μ-loop
-same-length-9 c = search needs
+same-length-9 c = c .before .loop .inv .5
 
 same-length-10 : tie.Need-same-length-10 Inv-loop μ-loop
-same-length-10 c = search needs
+same-length-10 c = c .before .loop .inv .6
 
 returns-2 : tie.Need-returns-2 Inv-loop μ-loop
 returns-2 c =

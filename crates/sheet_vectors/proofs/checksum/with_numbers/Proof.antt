@@ -20,10 +20,10 @@ shared-slice-read-wide-number : tie.Need-shared-slice-read-wide-number Inv-loop 
 shared-slice-read-wide-number c = search needs
 
 wide-number-requires : tie.Need-wide-number-requires Inv-loop μ-loop
-wide-number-requires c κs = search needs
+wide-number-requires c κs = tt
 
 step-requires : tie.Need-step-requires Inv-loop μ-loop
-step-requires c κs = search needs
+step-requires c κs = tt
 
 add-i : tie.Need-add-i Inv-loop μ-loop
 add-i c = search needs

@@ -20,10 +20,10 @@ shared-slice-copy-out-shifted : tie.Need-shared-slice-copy-out-shifted Inv-loop 
 shared-slice-copy-out-shifted c = search needs
 
 shifted-requires : tie.Need-shifted-requires Inv-loop μ-loop
-shifted-requires c κs = search needs
+shifted-requires c κs = tt
 
 step-requires : tie.Need-step-requires Inv-loop μ-loop
-step-requires c κs = search needs
+step-requires c κs = tt
 
 add-i : tie.Need-add-i Inv-loop μ-loop
 add-i c = search needs

@@ -17,7 +17,7 @@ shared-slice-read-small : tie.Need-shared-slice-read-small Inv-loop μ-loop
 shared-slice-read-small c = search needs
 
 small-requires : tie.Need-small-requires Inv-loop μ-loop
-small-requires c κs = search needs
+small-requires c κs = tt
 
 add-i : tie.Need-add-i Inv-loop μ-loop
 add-i c = search needs

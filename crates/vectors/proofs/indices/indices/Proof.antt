@@ -17,7 +17,7 @@ cast-index : tie.Need-cast-index Inv-loop μ-loop
 cast-index c = search needs
 
 index-requires : tie.Need-index-requires Inv-loop μ-loop
-index-requires c κs = search needs
+index-requires c κs = tt
 
 add-d : tie.Need-add-d Inv-loop μ-loop
 add-d c = search needs

@@ -20,10 +20,10 @@ shared-slice-read-digits : tie.Need-shared-slice-read-digits Inv-loop μ-loop
 shared-slice-read-digits c = search needs
 
 digits-requires : tie.Need-digits-requires Inv-loop μ-loop
-digits-requires c κs = search needs
+digits-requires c κs = tt
 
 end-requires : tie.Need-end-requires Inv-loop μ-loop
-end-requires c κs = search needs
+end-requires c κs = tt
 
 add-k : tie.Need-add-k Inv-loop μ-loop
 add-k c = search needs

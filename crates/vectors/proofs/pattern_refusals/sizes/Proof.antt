@@ -14,7 +14,7 @@ loop-holds : tie.Need-loop-holds Inv-loop μ-loop
 loop-holds c = search needs
 
 list-line-requires : tie.Need-list-line-requires Inv-loop μ-loop
-list-line-requires c κs = search needs
+list-line-requires c κs = tt
 
 add-n : tie.Need-add-n Inv-loop μ-loop
 add-n c = search needs

@@ -23,7 +23,7 @@ shared-slice-read-pairs : tie.Need-shared-slice-read-pairs Inv-loop μ-loop
 shared-slice-read-pairs c = search needs
 
 pairs-requires : tie.Need-pairs-requires Inv-loop μ-loop
-pairs-requires c κs = search needs
+pairs-requires c κs = tt
 
 mul-pairs-2 : tie.Need-mul-pairs-2 Inv-loop μ-loop
 mul-pairs-2 c = search needs
@@ -32,7 +32,7 @@ shared-slice-read-pairs-2 : tie.Need-shared-slice-read-pairs-2 Inv-loop μ-loop
 shared-slice-read-pairs-2 c = search needs
 
 pairs-requires-2 : tie.Need-pairs-requires-2 Inv-loop μ-loop
-pairs-requires-2 c κs = search needs
+pairs-requires-2 c κs = tt
 
 mul-pairs-3 : tie.Need-mul-pairs-3 Inv-loop μ-loop
 mul-pairs-3 c = search needs
@@ -41,7 +41,7 @@ shared-slice-read-pairs-3 : tie.Need-shared-slice-read-pairs-3 Inv-loop μ-loop
 shared-slice-read-pairs-3 c = search needs
 
 pairs-requires-3 : tie.Need-pairs-requires-3 Inv-loop μ-loop
-pairs-requires-3 c κs = search needs
+pairs-requires-3 c κs = tt
 
 add-k : tie.Need-add-k Inv-loop μ-loop
 add-k c = search needs

@@ -14,7 +14,7 @@ loop-holds : tie.Need-loop-holds Inv-loop μ-loop
 loop-holds c = search needs
 
 value-requires : tie.Need-value-requires Inv-loop μ-loop
-value-requires c κs = search needs
+value-requires c κs = tt
 
 array-write-out : tie.Need-array-write-out Inv-loop μ-loop
 array-write-out c = search needs

@@ -41,7 +41,7 @@ add-mark-at c =
     omega (arith, small (s .args .n) (c .before .before .before .loop .k) (s .pre .0) (s .pre .1))
 
 mark-at-requires : tie.Need-mark-at-requires Inv-loop μ-loop
-mark-at-requires c κs = search needs
+mark-at-requires c κs = tt
 
 shl-out : tie.Need-shl-out Inv-loop μ-loop
 shl-out c = search needs
