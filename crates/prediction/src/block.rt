@@ -5,11 +5,14 @@ ghost use Prim.Native.Nat.{_≤_};
 ghost use lib.ListN.{length};
 ghost use Rattle.arith.specs.Bits.{testBit};
 ghost use Rattle.arith.specs.Lists.{listOf};
+ghost use Rattle.sides.specs.Answer.{sidesRefusal};
+ghost use Rattle.prediction.specs.Block.{sampleOf};
 ghost use Rattle.prediction.specs.Answer.{lengthsOk, predictRefusal, predictAnswer, predictBlock, predictTold};
 use crate::Predicted;
 use crate::offset;
 use pattern::check;
 
+// a where m holds, else b.
 fn pick(m: bool, a: u8, b: u8) -> u8
     ensures { λ r. ⌜ r ≡ cond m a b ⌝ }
 {
@@ -62,6 +65,18 @@ fn predict_refusal(
     check(lengths, 2, check(sound, 3, later))
 }
 
+// The value of the samples with the mark m: off1 goes to marked samples, off0 to unmarked ones.
+fn value_of(n: usize, word: u64, border: &[u8], table: &[u8], m: bool, off0: i32, off1: i32) -> u8
+    requires { ⌜ sidesRefusal n word (now border) ≡ 0 ⌝ }
+    ensures { λ r. ⌜ r ≡ sampleOf n word (now (border .entry)) (now (table .entry)) off0 off1 m ⌝ }
+{
+    let d = sides::side_depth(n, word, border, m);
+    if m {
+        return offset::level(table, d, off1);
+    }
+    offset::level(table, d, off0)
+}
+
 // Writes the predicted block of n * n samples and answers the number of marks, or refuses with 1, 2, 3, 5 or 4 and writes nothing.
 pub fn predict(
     n: usize,
@@ -79,8 +94,9 @@ pub fn predict(
     if refusal != 0 {
         return Predicted::Refused(refusal);
     }
-    let v0 = offset::level(table, sides::side_depth(n, word, border, false), off0);
-    let v1 = offset::level(table, sides::side_depth(n, word, border, true), off1);
-    paint(word, v1, v0, block);
+    let m = pattern::mark_at(word, 0);
+    let a = value_of(n, word, border, table, m, off0, off1);
+    let b = value_of(n, word, border, table, !m, off0, off1);
+    paint(word, pick(m, a, b), pick(m, b, a), block);
     Predicted::Marks(u64::count_ones(word))
 }

@@ -1,14 +1,15 @@
 -- `predict` meets its contract: the answer and the block where a check fails, and where none does.
 use Prim.Native.Nat.{ℕ}
 use mathlib.Core.Path.{_≡_, sym, _∙_}
-use mathlib.Core.Bool.{true, false}
+use mathlib.Core.Bool.{not}
 use denote.Ref.{now}
 use lib.ListN.{length}
 use mir.Syntax.{w32}
 use mir.ValLaws.{toZ-ofZ}
 use Rattle.arith.proofs.CheckLaws.{answer-refused, answer-given, lent-refused, lent-given}
+use Rattle.sides.specs.Answer.{sidesRefusal}
 use Rattle.prediction.specs.Answer.{predictRefusal, predictAnswer, predictBlock}
-use Rattle.prediction.proofs.BlockLaws.{level-found, painted-is}
+use Rattle.prediction.proofs.BlockLaws.{painted-is, marked-is, unmarked-is, offsets-kept}
 use Rattle.prediction.proofs.CallLaws.{offsets-read, predict-accepted, sides-accept}
 use borrow.Author.Needs.{needs}
 use Rattle.prediction.proofs.block.predict.Statement.{statement}
@@ -29,6 +30,9 @@ number-found c =
 none : (c : tie.Else1) → number (c .before .before .before .before .before) ≡ 0
 none c = sym (number-found (c .before)) ∙ c .if1 .left
 
+sound : (c : tie.Else1) → let a = c .before .before .before .before .before .args in sidesRefusal (a .n) (a .word) (now (a .border)) ≡ 0
+sound c = sides-accept _ (predict-accepted _ _ _ _ _ _ _ (none c))
+
 predict-refusal-requires : tie.Need-predict-refusal-requires
 predict-refusal-requires c κs = tt
 
@@ -39,17 +43,20 @@ returns c = (
   rw (← (number-found (c .before))) (lent-refused _ _ _ (c .if1 .taken)),
 )
 
-side-depth-requires : tie.Need-side-depth-requires
-side-depth-requires c κs = tt
+mark-at-requires : tie.Need-mark-at-requires
+mark-at-requires c κs = tt
 
-level-requires : tie.Need-level-requires
-level-requires c κs = tt
+value-of-requires : tie.Need-value-of-requires
+value-of-requires c κs = sound (c .before)
 
-side-depth-requires-2 : tie.Need-side-depth-requires-2
-side-depth-requires-2 c κs = tt
+value-of-requires-2 : tie.Need-value-of-requires-2
+value-of-requires-2 c κs = sound (c .before .before)
 
-level-requires-2 : tie.Need-level-requires-2
-level-requires-2 c κs = tt
+pick-requires : tie.Need-pick-requires
+pick-requires c κs = tt
+
+pick-requires-2 : tie.Need-pick-requires-2
+pick-requires-2 c κs = tt
 
 paint-requires : tie.Need-paint-requires
 paint-requires c κs = tt
@@ -61,23 +68,22 @@ returns-2 : tie.Need-returns-2
 unfolding predictAnswer predictBlock
 returns-2 c =
     let drawn = c .before .before in
-    let level1 = drawn .before .before in
-    let level0 = level1 .before .before in
-    let branch = level0 .before .before in
+    let second = drawn .before .before in
+    let first = second .before in
+    let other = first .before in
+    let own = other .before in
+    let mark = own .before in
+    let branch = mark .before in
     let start = branch .before .before .before .before .before in
     let a = start .args in
     let s = now (a .border) in
     let t = now (a .table) in
+    let m = mark .mark-at .result in
     let p = predict-accepted _ _ _ _ _ _ _ (none branch) in
-    let found = sides-accept s p in
-    let e0 =
-    level-found (a .n) (a .word) s t false found (level0 .level .ensures) (level0 .before .side-depth .ensures)
-    (toZ-ofZ w32 _ (start .fits .off0))
-    in
-    let e1 =
-    level-found (a .n) (a .word) s t true found (level1 .level2 .ensures) (level1 .before .side-depth2 .ensures)
-    (toZ-ofZ w32 _ (start .fits .off1))
-    in (
+    let ea = own .value-of .ensures ∙ offsets-kept (a .n) (a .word) s t m (toZ-ofZ w32 _ (start .fits .off0)) (toZ-ofZ w32 _ (start .fits .off1)) in
+    let eb = other .value-of2 .ensures ∙ offsets-kept (a .n) (a .word) s t (not m) (toZ-ofZ w32 _ (start .fits .off0)) (toZ-ofZ w32 _ (start .fits .off1)) in
+    let e1 = marked-is (a .n) (a .word) s t (a .off0) (a .off1) m (first .pick .ensures) ea eb in
+    let e0 = unmarked-is (a .n) (a .word) s t (a .off0) (a .off1) m (second .pick2 .ensures) ea eb in (
       answer-given _ _ (none branch),
       drawn .paint .ensures ∙ painted-is (a .n) (a .word) s t (a .off0) (a .off1) e0 e1 (p .full) ∙ lent-given _ _ _ (none branch),
     )
@@ -88,10 +94,11 @@ predict-spec =
     (tie.spec
     predict-refusal-requires
     returns
-    side-depth-requires
-    level-requires
-    side-depth-requires-2
-    level-requires-2
+    mark-at-requires
+    value-of-requires
+    value-of-requires-2
+    pick-requires
+    pick-requires-2
     paint-requires
     same-length
     returns-2)
