@@ -46,6 +46,7 @@ fn record_of(count: usize, p: Picked) -> Best
     }
 }
 
+// A number as a place in a slice.
 fn wide(x: u32) -> usize
     ensures { λ r. ⌜ r ≡ x ⌝ }
 {

@@ -17,6 +17,7 @@ fn belongs_to(word: u64, side: bool, k: usize) -> bool
     if side { marked } else { !marked }
 }
 
+// A byte as a place in a slice.
 fn wide(x: u8) -> usize
     ensures { λ r. ⌜ (r ≡ x) × (r < 256) ⌝ }
 {

@@ -20,6 +20,7 @@ struct Sides {
     cost: u32,
 }
 
+// The best offset of each partition of a pattern, and the cost of both.
 fn best_sides(
     n: usize,
     word: u64,

@@ -25,6 +25,7 @@ pub struct Choice {
     pub cost: u32,
 }
 
+// A byte as a longer number.
 fn wide(number: u8) -> u32
     ensures { λ r. ⌜ r ≡ number ⌝ }
 {

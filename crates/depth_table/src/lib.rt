@@ -23,6 +23,7 @@ pub fn distance(a: u8, b: u8) -> u8
     if a < b { b - a } else { a - b }
 }
 
+// A byte as a longer number.
 fn wide(x: u8) -> usize
     ensures { λ r. ⌜ r ≡ x ⌝ }
 {

@@ -33,6 +33,7 @@ pub struct FileWritten {
     pub length: usize,
 }
 
+// A byte as a longer number.
 fn wide(number: u8) -> u32
     ensures { λ r. ⌜ r ≡ number ⌝ }
 {

@@ -10,6 +10,7 @@ pub fn check(ok: bool, number: u8, rest: u8) -> u8
     if ok { rest } else { number }
 }
 
+// The lesser of two numbers.
 pub fn lesser(a: usize, b: usize) -> usize
     ensures { λ r. ⌜ r ≡ min a b ⌝ }
 {

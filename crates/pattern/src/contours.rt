@@ -29,6 +29,7 @@ pub fn samples_refusal(n: usize, samples: usize) -> u8
     0
 }
 
+// A byte as a longer number.
 fn wide(x: u8) -> u64
     ensures { λ r. ⌜ (r ≡ x) × (r ≤ 255) ⌝ }
 {

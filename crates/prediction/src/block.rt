@@ -42,6 +42,7 @@ fn lengths_ok(n: usize, neighbours: usize, samples: usize) -> bool
     samples == n * n
 }
 
+// The number of the first check of `predict` that fails, 0 for none.
 fn predict_refusal(
     n: usize,
     word: u64,

@@ -21,6 +21,7 @@ pub(crate) enum LinesRead {
     Refused(u8, u32),
 }
 
+// A number below 256 as a byte.
 fn narrow(v: u32) -> u8
     requires { ⌜ v < 256 ⌝ }
     ensures { λ r. ⌜ r ≡ v ⌝ }

@@ -59,7 +59,7 @@ fn wedgelet_meaning(n: usize, list: &[u64], count: usize, entry: u32) -> Meaning
 }
 
 impl Sheet {
-    // Column and row of the first sample of the next block.
+    // The column of the first sample of the next block.
     fn next_x(self) -> usize
         requires { ⌜ Open self ⌝ }
         ensures { λ r. ⌜ r ≡ nextX self ⌝ }
@@ -69,6 +69,7 @@ impl Sheet {
         self.placed as usize % across * n
     }
 
+    // The row of that sample.
     fn next_y(self) -> usize
         requires { ⌜ Open self ⌝ }
         ensures { λ r. ⌜ r ≡ nextY self ⌝ }

@@ -10,6 +10,7 @@ ghost use Rattle.sides.specs.Answer.{sidesRefusal, sidesAnswer, sidesTol
 use crate::SideDepths;
 use depth_table::DepthValue;
 
+// Whether two marks differ.
 fn differs(a: bool, b: bool) -> bool
     ensures { λ r. ⌜ r ≡ differ a b ⌝ }
 {
@@ -109,6 +110,7 @@ fn br_depth(n: usize, v: bool, h: bool, border: &[u8]) -> u8
     far_end(n, border)
 }
 
+// The depth of the side that holds (0,0), of a pattern.
 fn lt_of(n: usize, word: u64, border: &[u8]) -> DepthValue
     requires { ⌜ (1 ≤ n) × (n ≤ 8) × (length (now border) ≡ 4 * n) ⌝ }
     ensures { λ r. ⌜ r .0 ≡ lt n word (now (border .entry)) ⌝ }
@@ -118,6 +120,7 @@ fn lt_of(n: usize, word: u64, border: &[u8]) -> DepthValue
     DepthValue(lt_depth(n, v, h, border))
 }
 
+// The depth of the other side, of a pattern.
 fn br_of(n: usize, word: u64, border: &[u8]) -> DepthValue
     requires { ⌜ (1 ≤ n) × (n ≤ 8) × (length (now border) ≡ 4 * n) ⌝ }
     ensures { λ r. ⌜ r .0 ≡ br n word (now (border .entry)) ⌝ }
@@ -127,6 +130,7 @@ fn br_of(n: usize, word: u64, border: &[u8]) -> DepthValue
     DepthValue(br_depth(n, v, h, border))
 }
 
+// The number of the first check that fails, 0 for none.
 fn sides_refusal(n: usize, word: u64, border: &[u8]) -> u8
     ensures { λ r. ⌜ r ≡ sidesRefusal n word (now (border .entry)) ⌝ }
 {
