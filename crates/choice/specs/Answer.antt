@@ -7,6 +7,7 @@ use lib.ListN.{length, getD}
 use Rattle.arith.specs.Checks.{unless, Answer, refused, given, answer}
 use Rattle.depth_table.specs.Table.{tableOk}
 use Rattle.pattern.specs.Size.{sizeOk, wordOk}
+use Rattle.pattern.specs.Answer.{countOk}
 use Rattle.choice.specs.Record.{Case, Record, LeastRecord}
 use Rattle.choice.specs.Search.{textured, chosen}
 use Rattle.choice.specs.declared.Best.{Best}
@@ -19,7 +20,7 @@ lengthsOk n words count neighbours samples texture =
     eqb neighbours (4 * n)
     && (eqb samples (n * n)
     && ((eqb texture 0 || eqb texture (n * n))
-    && (leb count words && leb count 9999)))
+    && countOk words count))
 
 -- the first k words of the list mark samples of the block only
 unfoldable pub wordsOk : ℕ → List ℕ → ℕ → Bool

@@ -7,6 +7,7 @@ ghost use lib.ListN.{length};
 ghost use Rattle.choice.specs.Record.{caseOf};
 ghost use Rattle.choice.specs.Answer.{lengthsOk, wordsOk, chooseRefusal};
 use pattern::check;
+use pattern::count_ok;
 
 // Whether a texture is empty or has n * n samples.
 fn texture_ok(n: usize, texture: usize) -> bool
@@ -40,10 +41,7 @@ fn lengths_ok(
     if !texture_ok(n, texture) {
         return false;
     }
-    if words < count {
-        return false;
-    }
-    count <= 9999
+    count_ok(words, count)
 }
 
 // Whether every word below the count marks samples of the block only.

@@ -1,5 +1,6 @@
 -- What the public calls answer and leave in lent slices: refusals in document 01's order. Assumes nothing.
 use Prim.Native.Nat.{ℕ, _-_, _*_}
+use mathlib.Core.Bool.{Bool, _&&_}
 use mathlib.Core.List.{List, _++_}
 use lib.Dec.{eqb, leb}
 use lib.ListN.{length, drop, replicate}
@@ -12,6 +13,10 @@ use Rattle.pattern.specs.Block.{capacity, blockOf, transposedBlock, samp
 -- the words that a lent list needs: one for each candidate, 132 for n = 4 and 756 for n = 8
 abbrev pub needed : ℕ → ℕ
 needed n = points n * (points n - 1)
+
+-- a list's count: no more than the words lent, and at most 9,999
+abbrev pub countOk : ℕ → ℕ → Bool
+countOk words count = leb count words && leb count 9999
 
 -- 1: the size; 2: the lent list is short
 unfoldable pub listRefusal : ℕ → ℕ → ℕ

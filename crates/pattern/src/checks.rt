@@ -1,13 +1,21 @@
-// Checks in order, each with the number of its refusal, and the lesser of two numbers.
+// Checks in order, each with the number of its refusal; the count of a list; the lesser of two numbers.
 ghost use mathlib.Core.Path.{_≡_};
 ghost use Prim.Native.Nat.{min};
 ghost use Rattle.arith.specs.Checks.{unless};
+ghost use Rattle.pattern.specs.Answer.{countOk};
 
 // The number where the check fails, else what the checks after it say.
 pub fn check(ok: bool, number: u8, rest: u8) -> u8
     ensures { λ r. ⌜ r ≡ unless ok number rest ⌝ }
 {
     if ok { rest } else { number }
+}
+
+// Whether a list has so many words, and the count is at most 9,999.
+pub fn count_ok(words: usize, count: usize) -> bool
+    ensures { λ r. ⌜ r ≡ countOk words count ⌝ }
+{
+    count <= words && count <= 9999
 }
 
 // The lesser of two numbers.

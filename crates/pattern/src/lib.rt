@@ -11,6 +11,7 @@ pub use block::block_of;
 pub use block::transposed;
 pub use block::write_block;
 pub use checks::check;
+pub use checks::count_ok;
 pub use checks::lesser;
 pub use contours::Contoured;
 pub use contours::contour;

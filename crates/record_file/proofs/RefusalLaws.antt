@@ -16,6 +16,7 @@ use Rattle.arith.proofs.LeastLaws.{last-or-below}
 use Rattle.depth_table.specs.Table.{tableOk}
 use Rattle.depth_table.proofs.TableLaws.{table-counts}
 use Rattle.pattern.specs.Size.{sizeOk}
+use Rattle.pattern.specs.Answer.{countOk}
 use Rattle.pattern.proofs.SizeLaws.{size-bounds}
 use Rattle.sheet.specs.Grid.{sideOk}
 use Rattle.sheet.proofs.RefusalLaws.{unless-kept}
@@ -57,12 +58,12 @@ pub lengths-right :
     → LengthsRight S words count values records space
 unfolding writeLengthsOk
 lengths-right S words count values records space h =
-    let a = both-of (leb count words) _ h in
-    let b = both-of (leb count 9999) _ (a .1) in
-    let c = both-of (leb (blocksOf S) records) (leb (spaceFor values (blocksOf S)) space) (b .1) in
+    let a = both-of (countOk words count) _ h in
+    let b = both-of (leb count words) (leb count 9999) (a .0) in
+    let c = both-of (leb (blocksOf S) records) (leb (spaceFor values (blocksOf S)) space) (a .1) in
     record {
-      inside = leb-true _ _ (a .0);
-      few = leb-true _ _ (b .0);
+      inside = leb-true _ _ (b .0);
+      few = leb-true _ _ (b .1);
       enough = leb-true _ _ (c .0);
       room = leb-true _ _ (c .1);
     }

@@ -8,6 +8,7 @@ use lib.ListN.{length, take}
 use Rattle.arith.specs.Checks.{unless}
 use Rattle.depth_table.specs.Table.{tableOk}
 use Rattle.pattern.specs.Size.{sizeOk}
+use Rattle.pattern.specs.Answer.{countOk}
 use Rattle.sheet.specs.Grid.{blocks}
 use Rattle.sheet.specs.State.{stateOf, sidesOk}
 use Rattle.sheet.specs.Meaning.{recordRefusal}
@@ -116,7 +117,7 @@ fileLines A s =
 
 -- reading is lent 16,384 samples and 1,024 records, and a count that the lent words and 9,999 allow
 unfoldable pub readLengthsOk : ℕ → ℕ → ℕ → ℕ → Bool
-readLengthsOk samples records words count = leb 16384 samples && (leb 1024 records && (leb count words && leb count 9999))
+readLengthsOk samples records words count = leb 16384 samples && (leb 1024 records && countOk words count)
 
 -- reading a file: the lengths are judged first, as line 0
 unfoldable pub readFile : Aids → ℕ → ℕ → List ℕ → Lined File

@@ -8,6 +8,7 @@ use lib.ListN.{length}
 use lib.Seq.{sets}
 use Rattle.arith.specs.Checks.{unless, Answer, answer, lent}
 use Rattle.depth_table.specs.Table.{tableOk}
+use Rattle.pattern.specs.Answer.{countOk}
 use Rattle.sheet.specs.declared.Sheet.{Sheet}
 use Rattle.sheet.specs.State.{blocksOf, stateRefusal}
 use Rattle.sheet.specs.Meaning.{recordRefusal}
@@ -41,7 +42,7 @@ spaceFor values blocks = 80 + 4 * values + 32 * blocks
 -- a count that the lent words and 9,999 allow, no fewer records than blocks, and space
 unfoldable pub writeLengthsOk : Sheet → ℕ → ℕ → ℕ → ℕ → ℕ → Bool
 writeLengthsOk S words count values records space =
-    leb count words && (leb count 9999 && (leb (blocksOf S) records && leb (spaceFor values (blocksOf S)) space))
+    countOk words count && (leb (blocksOf S) records && leb (spaceFor values (blocksOf S)) space)
 
 -- how far the numbers of a record that is not refused go
 pub record Small (r : RecordFields) : Type 0 where

@@ -16,13 +16,13 @@ use crate::front::read_front;
 use crate::front::read_last;
 use crate::lines::SizeBack;
 use crate::loops::LinesRead;
+use pattern::count_ok;
 use record_file::record_at;
 use record_text::Cursor;
 use record_text::RecordFields;
 use record_text::SizeFields;
 use sheet::Placed;
 use sheet::Sheet;
-use sheet::count_ok;
 use sheet::records_lent;
 
 // Whether what is lent to reading is long enough.

@@ -1,13 +1,13 @@
 -- The space that writing needs, compared part by part, and the tests of the lengths. Assumes nothing.
 use Prim.Native.Nat.{ℕ, _-_, _*_, _/_, _≤_, _<_}
 use mathlib.Core.Path.{_≡_, refl, sym}
-use mathlib.Core.Bool.{Bool, true, false, _&&_}
+use mathlib.Core.Bool.{Bool, true, false}
 use native.Mathlib.Omega.{arith}
 use borrow.Author.Tests.{le-leb, lt-leb, leb-true, leb-false}
 use lib.Dec.{eqb, leb}
 use Rattle.arith.specs.Checks.{unless}
-use Rattle.arith.proofs.Bools.{both-of, clash}
 use Rattle.pattern.specs.Size.{sizeOk}
+use Rattle.pattern.specs.Answer.{countOk}
 use Rattle.sheet.specs.declared.Sheet.{Sheet}
 use Rattle.sheet.specs.State.{blocksOf, sidesOk, newRefusal}
 use Rattle.record_file.specs.Writing.{spaceFor, writeLengthsOk}
@@ -26,24 +26,19 @@ space-records v b s h l = go (leb b ((s - 80 - 4 * v) / 32)) refl
     go false e = let k = leb-false b ((s - 80 - 4 * v) / 32) e in sym (lt-leb (spaceFor v b) s (omega arith))
 
 module _ (S : Sheet) (words count values records space : ℕ) where
-  pub write-count : (leb count words && leb count 9999) ≡ false → false ≡ writeLengthsOk S words count values records space
+  pub write-count : countOk words count ≡ false → false ≡ writeLengthsOk S words count values records space
   unfolding writeLengthsOk
-  write-count h = go (leb count words) (leb count 9999) _ h
-    where
-      go : (a b c : Bool) → (a && b) ≡ false → false ≡ (a && (b && c))
-      go true true c h = clash h
-      go true false c h = refl
-      go false b c h = refl
+  write-count h = rw h
 
-  pub write-records : (leb count words && leb count 9999) ≡ true → records < blocksOf S → false ≡ writeLengthsOk S words count values records space
+  pub write-records : countOk words count ≡ true → records < blocksOf S → false ≡ writeLengthsOk S words count values records space
   unfolding writeLengthsOk
-  write-records h l = rw (both-of (leb count words) (leb count 9999) h .0, both-of (leb count words) (leb count 9999) h .1, lt-leb (blocksOf S) records l)
+  write-records h l = rw (h, lt-leb (blocksOf S) records l)
 
   pub write-space :
-      (leb count words && leb count 9999) ≡ true → blocksOf S ≤ records
+      countOk words count ≡ true → blocksOf S ≤ records
       → leb (spaceFor values (blocksOf S)) space ≡ writeLengthsOk S words count values records space
   unfolding writeLengthsOk
-  write-space h l = rw (both-of (leb count words) (leb count 9999) h .0, both-of (leb count words) (leb count 9999) h .1, le-leb (blocksOf S) records l)
+  write-space h l = rw (h, le-leb (blocksOf S) records l)
 
 -- of a sheet whose size is allowed, a new one is refused only where a side is not
 pub sides-new : (S : Sheet) → sizeOk (S .n) ≡ true → eqb (newRefusal (S .n) (S .width) (S .height)) 0 ≡ sidesOk S

@@ -10,11 +10,11 @@ ghost use Rattle.sheet.specs.State.{blocksOf, stateRefusal};
 ghost use Rattle.record_file.specs.Text.{recordAt};
 ghost use Rattle.record_file.specs.Writing.{firstTo, spaceFor, writeLengthsOk, writtenRefusal};
 use pattern::check;
+use pattern::count_ok;
 use record_file::new_refusal;
 use record_file::record_at;
 use record_file::record_refusal;
 use sheet::Sheet;
-use sheet::count_ok;
 
 // Whether there are 80 + 4 * values + 32 * blocks bytes. The products are not formed: they need not fit a machine word.
 fn space_ok(values: usize, blocks: u64, space: usize) -> bool

@@ -8,6 +8,7 @@ use lib.Dec.{eqb, leb, ltb}
 use Rattle.arith.specs.Checks.{unless, Answer, answer}
 use Rattle.depth_table.specs.Table.{tableOk}
 use Rattle.pattern.specs.Size.{sizeOk}
+use Rattle.pattern.specs.Answer.{countOk}
 use Rattle.sheet.specs.Grid.{longest, sideOk, blocks, blockX, blockY}
 use Rattle.sheet.specs.declared.Sheet.{Sheet}
 
@@ -55,7 +56,7 @@ newAnswer n w h = answer (newRefusal n w h) (stateOf n w h 0)
 -- as many samples as width * height, texture of none or as many samples, and a count that the lent words and 9,999 allow
 unfoldable pub lengthsOk : Sheet → ℕ → ℕ → ℕ → ℕ → Bool
 lengthsOk S samples words count texture =
-    eqb samples (area S) && ((eqb texture 0 || eqb texture (area S)) && (leb count words && leb count 9999))
+    eqb samples (area S) && ((eqb texture 0 || eqb texture (area S)) && countOk words count)
 
 -- 1: the size; 2: the lengths, whether they hold; 8: a side; 23: more blocks placed than the sheet has; then the rest
 unfoldable pub stateRefusal : Sheet → Bool → ℕ → ℕ

@@ -6,7 +6,6 @@ mod samples;
 mod state;
 
 pub use composing::records_lent;
-pub use state::count_ok;
 
 // The state of a sheet of width by height samples in blocks of n by n: how many of its blocks are placed.
 pub struct Sheet {

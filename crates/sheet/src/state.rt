@@ -1,7 +1,7 @@
 // The state of a sheet, and what is checked of it.
 ghost use mathlib.Core.Path.{_≡_};
-ghost use mathlib.Core.Bool.{_&&_, _||_};
-ghost use lib.Dec.{eqb, leb};
+ghost use mathlib.Core.Bool.{_||_};
+ghost use lib.Dec.{eqb};
 ghost use Prim.Native.Nat.{_<_};
 ghost use Rattle.sheet.specs.Grid.{sideOk, blocks};
 ghost use Rattle.sheet.specs.State.{sidesOk, stateOf, lengthsOk, blocksOf, newAnswer, openRefusal};
@@ -9,6 +9,7 @@ ghost use Rattle.sheet.specs.Told.{newTold};
 use crate::Made;
 use crate::Sheet;
 use pattern::check;
+use pattern::count_ok;
 
 // Whether a width or a height is a multiple of n, n to 128.
 fn side_ok(n: u32, side: u32) -> bool
@@ -40,13 +41,6 @@ fn texture_ok(texture: usize, area: usize) -> bool
     ensures { λ r. ⌜ r ≡ eqb texture 0 || eqb texture area ⌝ }
 {
     texture == 0 || texture == area
-}
-
-// Whether the list has so many words, and the count is at most 9,999.
-pub fn count_ok(words: usize, count: usize) -> bool
-    ensures { λ r. ⌜ r ≡ leb count words && leb count 9999 ⌝ }
-{
-    count <= words && count <= 9999
 }
 
 impl Sheet {

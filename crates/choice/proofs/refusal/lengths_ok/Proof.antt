@@ -1,7 +1,7 @@
 -- `lengths_ok` meets its contract: each return comes of the tests that led there. Assumes nothing.
 use mathlib.Core.Path.{sym, _∙_}
 use native.Mathlib.Omega.{arith}
-use borrow.Author.Tests.{eq-eqb, ne-eqb, lt-leb, le-leb, not-true, not-false}
+use borrow.Author.Tests.{eq-eqb, ne-eqb, not-true, not-false}
 use Rattle.pattern.proofs.SizeLaws.{square-64}
 use Rattle.choice.specs.Answer.{lengthsOk}
 use borrow.Author.Needs.{needs}
@@ -29,15 +29,16 @@ returns-3 : tie.Need-returns-3
 unfolding lengthsOk
 returns-3 c = rw (eq-eqb _ _ (c .before .before .before .if1 .left), eq-eqb _ _ (c .before .before .if2 .left), sym (c .before .texture-ok .ensures) ∙ not-true _ (c .if3 .taken))
 
+count-ok-requires : tie.Need-count-ok-requires
+count-ok-requires c κs = tt
+
 returns-4 : tie.Need-returns-4
 unfolding lengthsOk
-returns-4 c = rw (eq-eqb _ _ (c .before .before .before .before .if1 .left), eq-eqb _ _ (c .before .before .before .if2 .left), sym (c .before .before .texture-ok .ensures) ∙ not-false _ (c .before .if3 .left), lt-leb _ _ (c .if4 .taken))
-
-returns-5 : tie.Need-returns-5
-unfolding lengthsOk
-returns-5 c = rw (eq-eqb _ _ (c .before .before .before .before .if1 .left), eq-eqb _ _ (c .before .before .before .if2 .left), sym (c .before .before .texture-ok .ensures) ∙ not-false _ (c .before .if3 .left), le-leb _ _ (c .if4 .left))
+returns-4 c =
+    rw (eq-eqb _ _ (c .before .before .before .before .if1 .left), eq-eqb _ _ (c .before .before .before .if2 .left), sym (c .before .before .texture-ok .ensures) ∙ not-false _ (c .before .if3 .left))
+    (c .count-ok .ensures)
 
 pub lengths-ok-spec : {M : Type 1} → statement M
 lengths-ok-spec =
     tie.close
-    (tie.spec mul-if1 returns mul-if2 returns-2 texture-ok-requires returns-3 returns-4 returns-5)
+    (tie.spec mul-if1 returns mul-if2 returns-2 texture-ok-requires returns-3 count-ok-requires returns-4)

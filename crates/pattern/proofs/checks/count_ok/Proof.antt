@@ -1,7 +1,7 @@
 -- `count_ok` meets its contract, case by case.
 use borrow.Author.Tests.{le-leb, lt-leb}
-use Rattle.sheet.proofs.state.count_ok.Statement.{statement}
-use Rattle.sheet.proofs.state.count_ok.Tie as tie
+use Rattle.pattern.proofs.checks.count_ok.Statement.{statement}
+use Rattle.pattern.proofs.checks.count_ok.Tie as tie
 
 returns : tie.Need-returns
 returns c = rw (le-leb _ _ (c .if1 .taken))
