@@ -2,10 +2,10 @@
 // It prints the side and the number of records written.
 use libc::STDIN_FILENO;
 use libc::STDOUT_FILENO;
-use pattern::Listed;
 use sheet::Composed;
 use sheet::Made;
 use sheet::Sheet;
+use wedgelet::Listed;
 
 // The side that standard input asks for.
 fn side() -> u32 {
@@ -81,7 +81,7 @@ fn compose(sheet: Sheet, list: &[u64], count: usize, area: usize) -> usize {
 // The same with the wedgelet list for blocks of 8.
 fn with_list(sheet: Sheet, area: usize) -> usize {
     let mut list = [0u64; 756];
-    let listed = pattern::wedgelets(8, &mut list);
+    let listed = wedgelet::wedgelets(8, &mut list);
     match listed {
         Listed::Count(count) => compose(sheet, &list, count, area),
         Listed::Refused(_) => 0,

@@ -8,9 +8,9 @@ use lib.ListN.{length, replicate, length-replicate}
 use Rattle.arith.specs.Checks.{refused, given, answer}
 use Rattle.arith.proofs.CheckLaws.{given-means, refused-means}
 use Rattle.pattern.specs.Size.{sizeOk}
-use Rattle.pattern.specs.Wedgelet.{wedgeletList}
-use Rattle.pattern.specs.Answer.{needed, listRefusal, listAnswer, listAfter}
-use Rattle.pattern.proofs.AnswerLaws.{words-enough}
+use Rattle.wedgelet.specs.Wedgelet.{wedgeletList}
+use Rattle.wedgelet.specs.Answer.{needed, listRefusal, listAnswer, listAfter}
+use Rattle.wedgelet.proofs.AnswerLaws.{words-enough}
 use Rattle.choice.specs.Record.{Case, caseOf}
 use Rattle.choice.specs.Answer.{chooseRefusal, chooseAnswer}
 use Rattle.depth_bench.specs.Structs.{builtCase}

@@ -4,8 +4,8 @@ use mathlib.Core.List.{List}
 use lib.IntN.{pos}
 use lib.ListN.{length, replicate}
 use Rattle.arith.specs.Checks.{Answer, refused, given}
-use Rattle.pattern.specs.Answer.{listAfter}
-use Rattle.pattern.specs.Wedgelet.{wedgeletList}
+use Rattle.wedgelet.specs.Answer.{listAfter}
+use Rattle.wedgelet.specs.Wedgelet.{wedgeletList}
 use Rattle.choice.specs.Record.{Case, caseOf, Record}
 use Rattle.depth_bench.specs.declared.Prediction.{Prediction}
 use Rattle.depth_bench.specs.declared.Choice.{Choice}

@@ -4,8 +4,8 @@ ghost use lib.ListN.{length};
 ghost use Rattle.prediction.specs.Answer.{predictAnswer, predictBlock};
 ghost use Rattle.choice.specs.Answer.{chooseAnswer, chooseTold};
 ghost use Rattle.depth_bench.specs.Structs.{predictionOf, choiceOf, refusedChoice, builtCase};
-use pattern::Listed;
 use prediction::Predicted;
+use wedgelet::Listed;
 
 // The number of marks, or the number of the refusal beside 0.
 #[repr(C)]
@@ -99,7 +99,7 @@ pub extern "C" fn depth_bench_choose(
     ensures { λ r. ⌜ r ≡ choiceOf (chooseAnswer (builtCase n (now (border .entry)) (now (original .entry)) (now (table .entry)) reach (now (texture .entry)))) ⌝ }
 {
     let mut list = [0u64; 756];
-    let built = pattern::wedgelets(n, &mut list);
+    let built = wedgelet::wedgelets(n, &mut list);
     match built {
         Listed::Count(count) => told(choice::choose(
             n,

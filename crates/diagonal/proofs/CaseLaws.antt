@@ -11,8 +11,8 @@ use Rattle.arith.specs.Checks.{given}
 use Rattle.arith.specs.Square.{transposedList}
 use Rattle.arith.proofs.CheckLaws.{given-means, lent-given}
 use Rattle.arith.proofs.SquareLaws.{length-transposed, transposed-twice}
-use Rattle.pattern.specs.Wedgelet.{wedgeletList}
-use Rattle.pattern.specs.Answer.{listRefusal, listAnswer, listAfter}
+use Rattle.wedgelet.specs.Wedgelet.{wedgeletList}
+use Rattle.wedgelet.specs.Answer.{listRefusal, listAnswer, listAfter}
 use Rattle.sides.proofs.TransposedLaws.{length-transposed-neighbours, neighbours-transposed-twice}
 use Rattle.choice.specs.Record.{Case, caseOf}
 use Rattle.choice.specs.Answer.{chooseRefusal}

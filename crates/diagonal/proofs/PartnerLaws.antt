@@ -11,9 +11,9 @@ use Rattle.arith.proofs.Sums.{sum-ext}
 use Rattle.arith.proofs.SquareLaws.{transposed-across, sum-across}
 use Rattle.pattern.specs.Contour.{contourOf}
 use Rattle.pattern.specs.Pattern.{transposed}
-use Rattle.pattern.specs.Wedgelet.{wedgeletList}
+use Rattle.wedgelet.specs.Wedgelet.{wedgeletList}
 use Rattle.pattern.proofs.ContourLaws.{contour-transposed}
-use Rattle.pattern.proofs.WedgeletLaws.{list-closed}
+use Rattle.wedgelet.proofs.WedgeletLaws.{list-closed}
 use Rattle.sides.specs.Transposed.{transposedNeighbours, EndsDecide}
 use Rattle.prediction.specs.Block.{predicted}
 use Rattle.prediction.proofs.TransposedLaws.{prediction-transposed}

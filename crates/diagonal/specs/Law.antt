@@ -8,8 +8,9 @@ use lib.ListN.{length, take}
 use Rattle.arith.specs.Checks.{given}
 use Rattle.arith.specs.Square.{transposedList}
 use Rattle.pattern.specs.Pattern.{transposed}
-use Rattle.pattern.specs.Wedgelet.{wedgeletList}
-use Rattle.pattern.specs.Answer.{listAnswer, listAfter, contourAnswer}
+use Rattle.wedgelet.specs.Wedgelet.{wedgeletList}
+use Rattle.pattern.specs.Answer.{contourAnswer}
+use Rattle.wedgelet.specs.Answer.{listAnswer, listAfter}
 use Rattle.prediction.specs.Answer.{predictBlock}
 use Rattle.sides.specs.Transposed.{transposedNeighbours, EndsDecide}
 use Rattle.choice.specs.Record.{Case, caseOf, Record, Within, patternOf, predictionOf, costOf, LeastRecord}

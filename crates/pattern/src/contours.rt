@@ -8,7 +8,7 @@ ghost use Rattle.pattern.specs.Contour.{threshold};
 ghost use Rattle.pattern.specs.Answer.{samplesRefusal, contourAnswer};
 ghost use Rattle.pattern.specs.Told.{contourTold};
 use crate::size::size_ok;
-use crate::wedgelet::with_bit;
+use crate::size::with_bit;
 
 // What the contour answers: its word, or the number of the refusal.
 pub enum Contoured {

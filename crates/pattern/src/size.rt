@@ -2,6 +2,7 @@
 ghost use mathlib.Core.Path.{_≡_};
 ghost use Rattle.arith.specs.Bits.{testBit};
 ghost use Rattle.pattern.specs.Size.{sizeOk, wordOk};
+ghost use Rattle.pattern.specs.Pattern.{withBit};
 
 // Whether n is an allowed block size.
 pub fn size_ok(n: usize) -> bool
@@ -28,4 +29,20 @@ pub fn mark_at(word: u64, k: usize) -> bool
         return false;
     }
     (word >> k) % 2 == 1
+}
+
+// The word with bit k set where `on` holds; a word that has a bit from k up stays as it is.
+pub fn with_bit(word: u64, k: usize, on: bool) -> u64
+    ensures { λ r. ⌜ r ≡ withBit word k on ⌝ }
+{
+    if 64 <= k {
+        return word;
+    }
+    if word >> k != 0 {
+        return word;
+    }
+    if on {
+        return word + (1 << k);
+    }
+    word
 }

@@ -10,7 +10,7 @@ use Rattle.arith.specs.Lists.{listOf}
 use Rattle.depth_table.specs.Table.{nearestTo, indexOf}
 use Rattle.depth_table.specs.Examples.{sampleTable}
 use Rattle.pattern.specs.Pattern.{transposed}
-use Rattle.pattern.specs.Wedgelet.{candidate, wedgelet, holds, keep, ends, starts, wedgeletList}
+use Rattle.wedgelet.specs.Wedgelet.{candidate, wedgelet, holds, keep, ends, starts, wedgeletList}
 use Rattle.sides.specs.Sides.{vertEdge, horEdge, ltBy, brBy, lt, br, sideDepth}
 use Rattle.prediction.specs.Block.{levelOf, sampleOf, predicted}
 use Rattle.sides.specs.Transposed.{transposedNeighbours}

@@ -10,9 +10,9 @@ use lib.Seq.{take-at}
 use Rattle.arith.specs.Checks.{refused, given}
 use Rattle.arith.proofs.CheckLaws.{passed, given-means, refused-means}
 use Rattle.pattern.specs.Size.{sizeOk}
-use Rattle.pattern.specs.Wedgelet.{wedgeletList}
-use Rattle.pattern.specs.Answer.{needed, listRefusal, listAnswer, listAfter}
-use Rattle.pattern.proofs.AnswerLaws.{words-enough}
+use Rattle.wedgelet.specs.Wedgelet.{wedgeletList}
+use Rattle.wedgelet.specs.Answer.{needed, listRefusal, listAnswer, listAfter}
+use Rattle.wedgelet.proofs.AnswerLaws.{words-enough}
 use Rattle.record_text.specs.Parsed.{badForm, found, exactly}
 use Rattle.record_text.specs.declared.cursor.SizeFields.{SizeFields}
 use Rattle.record_text.specs.Line.{sizeTitle, sizeLine}

@@ -10,7 +10,7 @@ use Rattle.arith.specs.Distance.{clamped}
 use Rattle.arith.specs.Lists.{listOf}
 use Rattle.depth_table.specs.Examples.{sampleTable}
 use Rattle.depth_table.specs.Table.{nearestTo, indexOf}
-use Rattle.pattern.specs.Wedgelet.{candidate, wedgelet, holds, keep, ends, starts, wedgeletList}
+use Rattle.wedgelet.specs.Wedgelet.{candidate, wedgelet, holds, keep, ends, starts, wedgeletList}
 use Rattle.sides.specs.Sides.{vertEdge, horEdge, ltBy, brBy, lt, br, sideDepth}
 use Rattle.prediction.specs.Offset.{offsetOk}
 use Rattle.prediction.specs.Block.{levelOf, sampleOf, predicted}

@@ -7,7 +7,7 @@ use lib.Dec.{leb}
 use lib.ListN.{length, take, drop, replicate}
 use Rattle.arith.specs.Checks.{unless, Answer, answer, lent}
 use Rattle.pattern.specs.Size.{sizeOk}
-use Rattle.pattern.specs.Wedgelet.{wedgeletList}
+use Rattle.wedgelet.specs.Wedgelet.{wedgeletList}
 use Rattle.sheet.specs.State.{area, blocksOf}
 use Rattle.sheet.specs.Place.{placedInTurn}
 use Rattle.record_text.specs.declared.cursor.SizeFields.{SizeFields}

@@ -9,12 +9,12 @@ ghost use Rattle.sheet_text.specs.Showing.{sizeIn, Listing, textBy, read
 ghost use Rattle.sheet_text.specs.Told.{shownTold};
 use crate::printing::put_refusal;
 use crate::printing::put_sheet;
-use pattern::Listed;
 use record_text::Cursor;
 use record_text::SizeRead;
 use record_text::TextRead;
 use record_text::read_size_line;
 use record_text::read_size_title;
+use wedgelet::Listed;
 
 // What `show_text` answers: the length of the text, or the number of its refusal.
 pub enum Shown {
@@ -42,7 +42,7 @@ fn build_list(n: usize, list: &mut [u64]) -> usize
     requires { ⌜ 756 ≤ length (now list) ⌝ }
     ensures { λ r. ⌜ Listing n (now (list .exit)) r ⌝ }
 {
-    let listed = pattern::wedgelets(n, list);
+    let listed = wedgelet::wedgelets(n, list);
     match listed {
         Listed::Count(count) => count,
         Listed::Refused(_) => 0,

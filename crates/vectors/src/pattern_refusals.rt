@@ -2,11 +2,11 @@
 use crate::output;
 use crate::parts;
 use pattern::Contoured;
-use pattern::Listed;
+use wedgelet::Listed;
 
 // The refusal of a lent list; 0 for none.
 fn list_refusal(n: usize, list: &mut [u64]) -> u8 {
-    let listed = pattern::wedgelets(n, list);
+    let listed = wedgelet::wedgelets(n, list);
     match listed {
         Listed::Count(_) => 0,
         Listed::Refused(r) => r,
@@ -39,7 +39,7 @@ fn contour_refusal(n: usize, texture: &[u8]) -> u8 {
 
 // The refusal of samples that a block is read from and written to; 0 for none.
 fn block_refusal(n: usize, samples: &mut [u8]) -> u8 {
-    pattern::write_block(n, pattern::block_of(n, samples), samples)
+    block::write_block(n, block::block_of(n, samples), samples)
 }
 
 // The number that three calls agree on; 255 where they differ.

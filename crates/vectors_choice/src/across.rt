@@ -48,8 +48,8 @@ fn exchanged(border: [u8; 64], n: usize) -> [u8; 64]
 // The samples of the transposed block.
 fn transposed_block(n: usize, block: &[u8]) -> [u8; 64] {
     let mut out = [0u8; 64];
-    let b = pattern::transposed(n, pattern::block_of(n, block));
-    pattern::write_block(n, b, parts::first_mut(&mut out, parts::area(n)));
+    let b = block::transposed(n, block::block_of(n, block));
+    block::write_block(n, b, parts::first_mut(&mut out, parts::area(n)));
     out
 }
 

@@ -1,10 +1,10 @@
 // The wedgelet list, and the word of all marks.
 ghost use Prim.Native.Nat.{_≤_};
-use pattern::Listed;
+use wedgelet::Listed;
 
 // Builds the list, and answers its count; 0 where it is refused.
 pub(crate) fn build(n: usize, list: &mut [u64]) -> usize {
-    let listed = pattern::wedgelets(n, list);
+    let listed = wedgelet::wedgelets(n, list);
     match listed {
         Listed::Count(count) => count,
         Listed::Refused(_) => 0,

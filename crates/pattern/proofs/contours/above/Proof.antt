@@ -7,7 +7,7 @@ use lib.ListN.{getD}
 use lib.Dec.{ltb}
 use Rattle.arith.specs.Bits.{bits}
 use Rattle.arith.proofs.BitLaws.{bits-lt, bits-more}
-use Rattle.pattern.proofs.SizeLaws.{square-64}
+use Rattle.pattern.proofs.SizeLaws.{square-64, with-bit-free}
 use Rattle.pattern.proofs.contours.above.Statement.{statement}
 use Rattle.pattern.proofs.contours.above.Tie as tie
 
@@ -31,10 +31,7 @@ wide-requires : tie.Need-wide-requires Inv-loop μ-loop
 wide-requires c κs = tt
 
 with-bit-requires : tie.Need-with-bit-requires Inv-loop μ-loop
-with-bit-requires c κs = (
-  omega (arith, square-64 (c .before .before .before .before .before .pre .1)),
-  rw (c .before .before .before .loop .inv .2) (bits-lt _ _),
-)
+with-bit-requires c κs = tt
 
 add-i : tie.Need-add-i Inv-loop μ-loop
 add-i c = omega (arith, square-64 (c .before .before .before .before .before .before .pre .1))
@@ -43,11 +40,10 @@ loop-less : tie.Need-loop-less Inv-loop μ-loop
 loop-less c = omega arith
 
 loop-again : tie.Need-loop-again Inv-loop μ-loop
-loop-again c = (
-  refl,
-  omega arith,
-  bits-more _ _ (c .before .before .before .before .loop .inv .2) (ap (ltb _) (c .before .wide .ensures .0)) (c .with-bit .ensures),
-)
+loop-again c =
+    let e = c .before .before .before .before .loop .inv .2 in
+    let l : c .before .before .before .before .loop .i < 64 = omega (arith, square-64 (c .before .before .before .before .before .before .pre .1)) in
+    (refl, omega arith, bits-more _ _ e (ap (ltb _) (c .before .wide .ensures .0)) (c .with-bit .ensures ∙ with-bit-free (c .before .before .before .before .loop .w) (c .before .before .before .before .loop .i) _ l (rw e (bits-lt _ _))))
 
 returns : tie.Need-returns Inv-loop μ-loop
 returns c =

@@ -1,7 +1,7 @@
 -- `build_list` meets its contract, case by case.
 use borrow.Author.Needs.{needs}
 use mathlib.Core.Path.{sym, _∙_, ap}
-use Rattle.pattern.specs.Told.{listTold}
+use Rattle.wedgelet.specs.Told.{listTold}
 use Rattle.sheet_text.proofs.AidLaws.{list-built, list-refused}
 use Rattle.sheet_text.proofs.showing.build_list.Statement.{statement}
 use Rattle.sheet_text.proofs.showing.build_list.Tie as tie

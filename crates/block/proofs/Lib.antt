@@ -1,0 +1,2 @@
+-- Laws of blocks.
+pub mod BlockLaws

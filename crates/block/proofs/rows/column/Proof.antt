@@ -1,0 +1,59 @@
+-- `column` meets its contract: after y samples the first y places are filled. Assumes nothing.
+use Prim.Native.Nat.{ℕ, _+_, _*_, _-_, _≤_}
+use mathlib.Core.Path.{_≡_, refl, sym}
+use native.Mathlib.Omega.{arith}
+use borrow.Author.Needs.{needs}
+use Rattle.arith.specs.Lists.{upto}
+use Rattle.arith.proofs.ListLaws.{upto-none, fill-by, fill-end}
+use Rattle.block.specs.Block.{sample}
+use Rattle.block.proofs.rows.column.Statement.{statement}
+use Rattle.block.proofs.rows.column.Tie as tie
+
+abbrev Inv-loop : tie.InvT-loop
+Inv-loop n x b r₀ y₀ r y = (y ≤ n) × (r ≡ upto 8 y (λ i. sample b x i) 0)
+
+abbrev μ-loop : tie.MeasureT-loop
+μ-loop n x b r₀ y₀ r y = n - y
+
+loop-holds : tie.Need-loop-holds Inv-loop μ-loop
+loop-holds c = (omega arith, sym (upto-none 8 _ 0))
+
+mul-r : tie.Need-mul-r Inv-loop μ-loop
+mul-r c = search needs
+
+index-1-r : tie.Need-index-1-r Inv-loop μ-loop
+index-1-r c = search needs
+
+index-2-r : tie.Need-index-2-r Inv-loop μ-loop
+index-2-r c = search needs
+
+array-write-r : tie.Need-array-write-r Inv-loop μ-loop
+array-write-r c = search needs
+
+add-y : tie.Need-add-y Inv-loop μ-loop
+add-y c = search needs
+
+loop-less : tie.Need-loop-less Inv-loop μ-loop
+loop-less c = search needs
+
+loop-again : tie.Need-loop-again Inv-loop μ-loop
+loop-again c = (search needs, fill-by 8 _ _ 0 (c .before .before .loop .inv .1) refl (omega arith))
+
+returns : tie.Need-returns Inv-loop μ-loop
+returns c = fill-end 8 _ _ _ 0 (c .before .loop .inv .1) (omega arith) (omega arith)
+
+pub column-spec : {M : Type 1} → statement M
+column-spec =
+    tie.close
+    (tie.spec
+    Inv-loop
+    μ-loop
+    loop-holds
+    mul-r
+    index-1-r
+    index-2-r
+    array-write-r
+    add-y
+    loop-less
+    loop-again
+    returns)

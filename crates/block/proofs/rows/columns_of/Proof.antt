@@ -1,0 +1,59 @@
+-- `columns_of` meets its contract: after x rows the first x are filled. Assumes nothing.
+use Prim.Native.Nat.{ℕ, _+_, _*_, _-_, _≤_}
+use mathlib.Core.Path.{_≡_, refl, sym}
+use native.Mathlib.Omega.{arith}
+use borrow.Author.Needs.{needs}
+use lib.ListN.{getD, replicate}
+use Rattle.arith.specs.Lists.{upto}
+use Rattle.arith.specs.Square.{place}
+use Rattle.arith.proofs.ListLaws.{upto-none, fill-by, fill-end}
+use Rattle.block.specs.Block.{sample, blockBy}
+use Rattle.block.proofs.rows.columns_of.Statement.{statement}
+use Rattle.block.proofs.rows.columns_of.Tie as tie
+
+abbrev Inv-loop : tie.InvT-loop
+Inv-loop n b t₀ x₀ t x = (x ≤ n) × (t ≡ upto 8 x (λ j. upto 8 n (λ i. sample b j i) 0) (replicate 8 0))
+
+abbrev μ-loop : tie.MeasureT-loop
+μ-loop n b t₀ x₀ t x = n - x
+
+loop-holds : tie.Need-loop-holds Inv-loop μ-loop
+loop-holds c = (omega arith, sym (upto-none 8 _ (replicate 8 0)))
+
+column-requires : tie.Need-column-requires Inv-loop μ-loop
+column-requires c κs = search needs
+
+mul-t : tie.Need-mul-t Inv-loop μ-loop
+mul-t c = search needs
+
+array-set-from-t : tie.Need-array-set-from-t Inv-loop μ-loop
+array-set-from-t c = search needs
+
+add-x : tie.Need-add-x Inv-loop μ-loop
+add-x c = search needs
+
+loop-less : tie.Need-loop-less Inv-loop μ-loop
+loop-less c = search needs
+
+loop-again : tie.Need-loop-again Inv-loop μ-loop
+loop-again c =
+    (search needs, fill-by 8 _ _ (replicate 8 0) (c .before .before .loop .inv .1) (c .column .ensures) (omega arith))
+
+returns : tie.Need-returns Inv-loop μ-loop
+unfolding blockBy
+returns c = fill-end 8 _ _ _ (replicate 8 0) (c .before .loop .inv .1) (omega arith) (omega arith)
+
+pub columns-of-spec : {M : Type 1} → statement M
+columns-of-spec =
+    tie.close
+    (tie.spec
+    Inv-loop
+    μ-loop
+    loop-holds
+    column-requires
+    mul-t
+    array-set-from-t
+    add-x
+    loop-less
+    loop-again
+    returns)

@@ -1,0 +1,107 @@
+// A block as an array of row arrays, filled up to its size.
+ghost use mathlib.Core.Path.{_≡_};
+ghost use Prim.Native.Nat.{ℕ, _+_, _*_, _<_, _≤_};
+ghost use lib.ListN.{length, getD};
+ghost use Rattle.arith.specs.Lists.{upto};
+ghost use Rattle.arith.specs.Square.{place};
+ghost use Rattle.block.specs.Block.{sample, blockOf, transposedBlock, samplesOf};
+ghost use Rattle.pattern.specs.Answer.{samplesRefusal};
+ghost use Rattle.block.specs.Answer.{blockAnswer, transposedAnswer, samplesAfter};
+use pattern::samples_refusal;
+use pattern::size_ok;
+
+// The rows and columns that a block has room for.
+pub const CAPACITY: usize = 8;
+
+// Sample (x, y) is b[y][x].
+pub type Block = [[u8; CAPACITY]; CAPACITY];
+
+// Row y of n rows of n samples.
+fn row(n: usize, samples: &[u8], y: usize) -> [u8; CAPACITY]
+    requires { ⌜ (n ≤ 8) × (y < n) × (length (now samples) ≡ n * n) ⌝ }
+    ensures { λ r. ⌜ r ≡ upto 8 n (λ x. getD (now (samples .entry)) (place n x y) 0) 0 ⌝ }
+{
+    let mut r = [0u8; CAPACITY];
+    for x in 0..n {
+        r[x] = samples[y * n + x];
+    }
+    r
+}
+
+// The block of n * n samples that come row by row.
+fn rows_of(n: usize, samples: &[u8]) -> Block
+    requires { ⌜ (n ≤ 8) × (length (now samples) ≡ n * n) ⌝ }
+    ensures { λ r. ⌜ r ≡ blockOf 8 n (now (samples .entry)) ⌝ }
+{
+    let mut b = [[0u8; CAPACITY]; CAPACITY];
+    for y in 0..n {
+        b[y] = row(n, samples, y);
+    }
+    b
+}
+
+// The block of n * n samples that come row by row; a refused block (`samples_refusal` has the number) is all 0.
+pub fn block_of(n: usize, samples: &[u8]) -> Block
+    ensures { λ r. ⌜ r ≡ blockAnswer n (now (samples .entry)) ⌝ }
+{
+    if samples_refusal(n, samples.len()) != 0 {
+        return [[0u8; CAPACITY]; CAPACITY];
+    }
+    rows_of(n, samples)
+}
+
+// Column x of a block.
+fn column(n: usize, b: Block, x: usize) -> [u8; CAPACITY]
+    requires { ⌜ (n ≤ 8) × (x < n) ⌝ }
+    ensures { λ r. ⌜ r ≡ upto 8 n (λ y. sample b x y) 0 ⌝ }
+{
+    let mut r = [0u8; CAPACITY];
+    for y in 0..n {
+        r[y] = b[y][x];
+    }
+    r
+}
+
+// The block transposed: its columns become rows.
+fn columns_of(n: usize, b: Block) -> Block
+    requires { ⌜ n ≤ 8 ⌝ }
+    ensures { λ r. ⌜ r ≡ transposedBlock 8 n b ⌝ }
+{
+    let mut t = [[0u8; CAPACITY]; CAPACITY];
+    for x in 0..n {
+        t[x] = column(n, b, x);
+    }
+    t
+}
+
+// The block transposed over its main diagonal; a size that is refused gives the block back.
+pub fn transposed(n: usize, b: Block) -> Block
+    ensures { λ r. ⌜ r ≡ transposedAnswer n b ⌝ }
+{
+    if !size_ok(n) {
+        return b;
+    }
+    columns_of(n, b)
+}
+
+// The samples of a block row by row, written to the lent slice.
+fn put_samples(n: usize, b: Block, samples: &mut [u8])
+    requires { ⌜ (n ≤ 8) × (length (now samples) ≡ n * n) ⌝ }
+    ensures { λ _. ⌜ now (samples .exit) ≡ samplesOf n b ⌝ }
+{
+    for k in 0..n * n {
+        samples[k] = b[k / n][k % n];
+    }
+}
+
+// The samples of a block row by row, written to the lent slice; the answer is the refusal, 0 for none.
+pub fn write_block(n: usize, b: Block, samples: &mut [u8]) -> u8
+    ensures { λ r. ⌜ (r ≡ samplesRefusal n (length (now (samples .entry)))) × (now (samples .exit) ≡ samplesAfter n b (now (samples .entry))) ⌝ }
+{
+    let refusal = samples_refusal(n, samples.len());
+    if refusal != 0 {
+        return refusal;
+    }
+    put_samples(n, b, samples);
+    0
+}
