@@ -30,7 +30,7 @@ returns c =
     let e = toZ-ofZ w32 _ (s .fits .off0) in
     let f = toZ-ofZ w32 _ (s .fits .off1) in
     let told = ap predictTold (c .before .answer .given .1) in
-    (cc (e, f, ap predictionOf (sym told ∙ p .predict .ensures .0)), cc (e, f))
+    (rw (e, f) at (ap predictionOf (sym told ∙ p .predict .ensures .0)), rw (e, f) at (p .predict .ensures .1))
 
 same-length-2 : tie.Need-same-length-2
 same-length-2 c = search needs
@@ -42,7 +42,7 @@ returns-2 c =
     let e = toZ-ofZ w32 _ (s .fits .off0) in
     let f = toZ-ofZ w32 _ (s .fits .off1) in
     let told = ap predictTold (c .before .before .answer2 .given .1) in
-    (cc (e, f, ap predictionOf (sym told ∙ p .predict .ensures .0)), cc (e, f))
+    (rw (c .wide .ensures) (rw (e, f) at (ap predictionOf (sym told ∙ p .predict .ensures .0))), rw (e, f) at (p .predict .ensures .1))
 
 pub depth-bench-predict-spec : {M : Type 1} → statement M
 depth-bench-predict-spec =
