@@ -42,6 +42,20 @@ pub fn count_allowed(list: &[u64], count: usize) -> bool {
     count <= list.len() && count <= 9999
 }
 
+/// The last checks of a choice, for a list that has as many words as its count. Refusals: 5, 4, 10.
+pub fn check_search(n: usize, list: &[u64], count: usize, reach: u32, texture: &[u8]) -> Result<(), u32> {
+    if list[..count].iter().any(|&word| !word_allowed(n, word)) {
+        return Err(WORD);
+    }
+    if reach > 255 {
+        return Err(OFFSET);
+    }
+    if count == 0 && texture.is_empty() {
+        return Err(EMPTY_CHOICE);
+    }
+    Ok(())
+}
+
 /// The checks of a choice. Refusals: 1, 2, 3, 5, 4, 10.
 fn check(request: &Request) -> Result<(), u32> {
     let n = request.n;
@@ -56,16 +70,7 @@ fn check(request: &Request) -> Result<(), u32> {
     if !sound(request.table) {
         return Err(TABLE);
     }
-    if request.list[..request.count].iter().any(|&word| !word_allowed(n, word)) {
-        return Err(WORD);
-    }
-    if request.reach > 255 {
-        return Err(OFFSET);
-    }
-    if request.count == 0 && request.texture.is_empty() {
-        return Err(EMPTY_CHOICE);
-    }
-    Ok(())
+    check_search(n, request.list, request.count, request.reach, request.texture)
 }
 
 /// The kinds, entries and patterns of the records, "edges in list order, then the outline".

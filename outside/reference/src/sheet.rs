@@ -1,13 +1,13 @@
 //! Sheet. "Width and height are multiples of n, n to 128. Blocks come row by row, left to right."
 
 use crate::block::size_allowed;
-use crate::choice::{choose, count_allowed, Record, Request};
+use crate::choice::{check_search, choose, count_allowed, Record, Request};
 use crate::outline::outline;
 use crate::predict::{offset_allowed, predicted};
 use crate::sides::word_allowed;
 use crate::table::sound;
 use crate::{
-    ALL_PLACED, EMPTY_CHOICE, ENTRY, KIND, LENGTH, MEASURES, NO_TEXTURE, OFFSET, PLACED, SIZE, TABLE, WORD,
+    ALL_PLACED, ENTRY, KIND, LENGTH, MEASURES, NO_TEXTURE, OFFSET, PLACED, SIZE, TABLE, WORD,
 };
 
 /// "The state is n, width, height and the number of blocks placed."
@@ -141,50 +141,41 @@ impl Sheet {
         self
     }
 
-    /// Places a record as the next block and hands the next state back.
-    /// Refusals: 1, 2, 8, 23, 20, 3, 7, 21, 6, 5, 4.
-    pub fn place(self, samples: &mut [u8], lent: &Lent, record: &Record) -> Result<Sheet, u32> {
+    /// What placing and composing check first; the lengths are judged once the size is allowed. Refusals: 1, 2, 8, 23, 20, 3.
+    fn check_open(&self, lengths_fit: impl Fn() -> bool, table: &[u8]) -> Result<(), u32> {
         self.check_size()?;
-        let samples_fit = samples.len() as u64 == self.area();
-        if !samples_fit || !self.texture_fits(lent.texture) || !count_allowed(lent.list, lent.count) {
+        if !lengths_fit() {
             return Err(LENGTH);
         }
         self.check_state()?;
         if self.placed as u64 == self.blocks() {
             return Err(ALL_PLACED);
         }
-        if !sound(lent.table) {
+        if !sound(table) {
             return Err(TABLE);
         }
+        Ok(())
+    }
+
+    /// Whether the samples, the texture and the count fit the sheet and the list.
+    fn lent_fits(&self, samples: usize, lent: &Lent) -> bool {
+        samples as u64 == self.area() && self.texture_fits(lent.texture) && count_allowed(lent.list, lent.count)
+    }
+
+    /// Places a record as the next block and hands the next state back.
+    /// Refusals: 1, 2, 8, 23, 20, 3, 7, 21, 6, 5, 4.
+    pub fn place(self, samples: &mut [u8], lent: &Lent, record: &Record) -> Result<Sheet, u32> {
+        self.check_open(|| self.lent_fits(samples.len(), lent), lent.table)?;
         check_record(self.n, lent.list, lent.count, record, !lent.texture.is_empty())?;
         Ok(self.put(samples, lent, record))
     }
 
     /// Refusals of composing: 1, 2, 8, 23, 20, 3, 5, 4, 10.
     fn check_compose(&self, samples: usize, lent: &Lent, aim: &Aim, records: usize) -> Result<(), u32> {
-        self.check_size()?;
-        let samples_fit = samples as u64 == self.area() && aim.original.len() as u64 == self.area();
-        let lent_fits = self.texture_fits(lent.texture) && count_allowed(lent.list, lent.count);
-        if !samples_fit || !lent_fits || (records as u64) < self.blocks() {
-            return Err(LENGTH);
-        }
-        self.check_state()?;
-        if self.placed as u64 == self.blocks() {
-            return Err(ALL_PLACED);
-        }
-        if !sound(lent.table) {
-            return Err(TABLE);
-        }
-        if lent.list[..lent.count].iter().any(|&word| !word_allowed(self.n as usize, word)) {
-            return Err(WORD);
-        }
-        if aim.reach > 255 {
-            return Err(OFFSET);
-        }
-        if lent.count == 0 && lent.texture.is_empty() {
-            return Err(EMPTY_CHOICE);
-        }
-        Ok(())
+        let original_fits = aim.original.len() as u64 == self.area();
+        let fit = || self.lent_fits(samples, lent) && original_fits && records as u64 >= self.blocks();
+        self.check_open(fit, lent.table)?;
+        check_search(self.n as usize, lent.list, lent.count, aim.reach, lent.texture)
     }
 
     /// "Chooses and places every block still missing, and writes its record; the first block it places
