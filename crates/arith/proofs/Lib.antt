@@ -6,4 +6,3 @@ pub mod ListLaws
 pub mod SquareLaws
 pub mod LeastLaws
 pub mod CheckLaws
-pub mod DistanceLaws

@@ -89,7 +89,3 @@ module _ (n : ℕ) (s : List ℕ) (small : (i : ℕ) → getD s i 0 < 256) where
   pub sides-bytes : (w : ℕ) → (lt n w s < 256) × (br n w s < 256)
   unfolding lt br
   sides-bytes w = (ltBy-byte (vertEdge n w) (horEdge n w), brBy-byte (vertEdge n w) (horEdge n w))
-
-  pub side-depth-byte : (w : ℕ) (m : Bool) → sideDepth n w s m < 256
-  unfolding sideDepth
-  side-depth-byte w m = pick-byte (differ m (mark n w 0 0)) _ _ (sides-bytes w .1) (sides-bytes w .0)
