@@ -10,10 +10,10 @@ use mir.Val.{SFits}
 use Rattle.arith.specs.Checks.{Answer, refused, given, answer}
 use Rattle.arith.proofs.CheckLaws.{answer-refused, answer-given}
 use Rattle.arith.proofs.LeastLaws.{leastTo-first}
-use Rattle.choice.specs.Offset.{offset}
+use Rattle.side_cost.specs.Offset.{offset}
 use Rattle.choice.specs.Record.{Case, Record}
 use Rattle.choice.specs.Search.{trialCost, bestTrial, bestCost, patternAt, recordBy, recordAt, chosen}
-use Rattle.choice.specs.Tally.{PickedOf}
+use Rattle.choice.specs.Picked.{PickedOf}
 use Rattle.choice.specs.Answer.{chooseRefusal, chooseAnswer, LeastGiven}
 use Rattle.choice.proofs.LeastLaws.{answer-least}
 

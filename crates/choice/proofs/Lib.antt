@@ -1,8 +1,5 @@
 -- Laws of the choice.
-pub mod OffsetLaws
 pub mod SideLaws
-pub mod TallyLaws
-pub mod TrialLaws
 pub mod WeighLaws
 pub mod SearchLaws
 pub mod AcceptLaws

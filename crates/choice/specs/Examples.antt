@@ -16,9 +16,10 @@ use Rattle.pattern.specs.Contour.{threshold, contourOf}
 use Rattle.sides.specs.Sides.{vertEdge, horEdge, ltBy, brBy, lt, br, sideDepth}
 use Rattle.prediction.specs.Block.{levelOf, sampleOf, predicted}
 use Rattle.prediction.specs.Cases.{sampleNeighbours}
-use Rattle.choice.specs.Offset.{trial, offset}
+use Rattle.side_cost.specs.Offset.{offset}
+use Rattle.side_cost.specs.Cost.{sideCost}
 use Rattle.choice.specs.Record.{Case, caseOf, Record, difference, costOf}
-use Rattle.choice.specs.Search.{sideCost, bestCost, bestPattern, chosen}
+use Rattle.choice.specs.Search.{bestCost, bestPattern, chosen}
 use Rattle.choice.specs.Answer.{lengthsOk, wordsOk, chooseRefusal, chooseAnswer}
 
 -- the order of offsets between equals

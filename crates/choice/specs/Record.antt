@@ -9,7 +9,7 @@ use Rattle.arith.specs.Distance.{dist}
 use Rattle.arith.specs.Sum.{sumTo}
 use Rattle.pattern.specs.Contour.{contourOf}
 use Rattle.prediction.specs.Block.{predicted}
-use Rattle.choice.specs.Offset.{InReach, Sooner}
+use Rattle.side_cost.specs.Offset.{InReach, Sooner}
 
 -- what a choice is given: the size, the wedgelet list (document 01: the edge list) and its count, the neighbours (the border), the
 -- original samples, the depth table, the reach, and texture samples; no texture is the empty list

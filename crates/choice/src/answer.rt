@@ -1,7 +1,7 @@
 // The answer of a choice.
 ghost use mathlib.Core.Path.{_≡_};
 ghost use Prim.Native.Nat.{_<_, _≤_};
-ghost use Rattle.choice.specs.Offset.{offset};
+ghost use Rattle.side_cost.specs.Offset.{offset};
 ghost use Rattle.choice.specs.Record.{caseOf};
 ghost use Rattle.choice.specs.Search.{recordBy};
 ghost use Rattle.choice.specs.Answer.{recordTold, chooseTold, chooseAnswer, LeastGiven};

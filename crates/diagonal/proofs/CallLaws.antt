@@ -16,7 +16,7 @@ use Rattle.pattern.specs.Answer.{samplesRefusal, contourAnswer}
 use Rattle.pattern.specs.Contour.{contourOf}
 use Rattle.prediction.specs.Offset.{offsetOk}
 use Rattle.prediction.specs.Answer.{lengthsOk, predictRefusal, predictBlock}
-use Rattle.choice.specs.Offset.{InReach}
+use Rattle.side_cost.specs.Offset.{InReach}
 use Rattle.choice.specs.Record.{Case, Record, Within, patternBy, patternOf, predictionOf}
 use Rattle.choice.proofs.AcceptLaws.{Accepted}
 use Rattle.choice.proofs.NumberLaws.{numberOf, number-pattern}

@@ -2,7 +2,7 @@
 use mathlib.Core.Path.{_≡_, sym, _∙_}
 use Rattle.choice.specs.Record.{Case, caseOf}
 use Rattle.choice.specs.Answer.{chooseRefusal}
-use Rattle.choice.specs.Tally.{PickedOf}
+use Rattle.choice.specs.Picked.{PickedOf}
 use Rattle.choice.proofs.AcceptLaws.{accepted}
 use Rattle.choice.proofs.AnswerLaws.{picked-small, told-refused, told-given, told-least}
 use Rattle.choice.proofs.answer.choose.Statement.{statement}
