@@ -2,7 +2,6 @@
 pub mod SideLaws
 pub mod WeighLaws
 pub mod SearchLaws
-pub mod AcceptLaws
 pub mod NumberLaws
 pub mod LeastLaws
 pub mod AnswerLaws

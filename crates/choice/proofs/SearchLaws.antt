@@ -20,10 +20,10 @@ use Rattle.pattern.specs.Contour.{threshold, contourOf}
 use Rattle.pattern.proofs.ContourLaws.{contour-lt}
 use Rattle.sides.proofs.CallLaws.{sides-pass}
 use Rattle.side_cost.specs.Trial.{TrialOf}
-use Rattle.choice.specs.Record.{Case}
+use Rattle.choice_checks.specs.Case.{Case}
+use Rattle.choice_checks.proofs.AcceptLaws.{Accepted, words-at}
 use Rattle.choice.specs.Search.{trialCost, bestCost, patternAt, lastPattern, bestPattern}
 use Rattle.choice.specs.Picked.{blockCase, Weighable, SidesOf, PickedOf}
-use Rattle.choice.proofs.AcceptLaws.{Accepted, words-at}
 
 -- ---- one pattern
 

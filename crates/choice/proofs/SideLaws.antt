@@ -14,7 +14,8 @@ use Rattle.prediction.specs.Block.{levelOf, sampleOf, predicted}
 use Rattle.side_cost.specs.Offset.{trial}
 use Rattle.side_cost.specs.Cost.{sideCost}
 use Rattle.side_cost.proofs.OffsetLaws.{offset-trial}
-use Rattle.choice.specs.Record.{Case, predictionBy, difference}
+use Rattle.choice_checks.specs.Case.{Case}
+use Rattle.choice.specs.Record.{predictionBy, difference}
 use Rattle.choice.specs.Search.{trialCost}
 
 -- one sample: its own partition pays, the other does not

@@ -6,7 +6,7 @@ use mathlib.Core.List.{List, []}
 use lib.ListN.{length}
 use Rattle.depth_table.specs.Table.{tableOk}
 use Rattle.sides.specs.Answer.{sidesRefusal}
-use Rattle.choice.specs.Record.{Case, caseOf}
+use Rattle.choice_checks.specs.Case.{Case, caseOf}
 use Rattle.choice.specs.Search.{bestTrial, bestCost, patternAt, bestPattern}
 
 -- a case without patterns: what the cost of one pattern depends on

@@ -3,14 +3,15 @@
 use Prim.Native.Nat.{ℕ, _+_, _-_, _*_}
 use mathlib.Core.Bool.{Bool, true, false, cond}
 use lib.Dec.{ltb}
-use lib.ListN.{length, getD}
+use lib.ListN.{getD}
 use Rattle.arith.specs.Least.{leastTo}
 use Rattle.pattern.specs.Contour.{contourOf}
 use Rattle.sides.specs.Sides.{sideDepth}
 use Rattle.prediction.specs.Block.{levelOf}
 use Rattle.side_cost.specs.Offset.{offset}
 use Rattle.side_cost.specs.Cost.{sideCost}
-use Rattle.choice.specs.Record.{Case, Record}
+use Rattle.choice_checks.specs.Case.{Case, textured}
+use Rattle.choice.specs.Record.{Record}
 
 -- what partition m costs at the offset with the number t
 abbrev pub trialCost : Case → ℕ → Bool → ℕ → ℕ
@@ -24,10 +25,6 @@ bestTrial C w m = leastTo (trialCost C w m) (2 * C .reach)
 -- the least cost of a pattern
 unfoldable pub bestCost : Case → ℕ → ℕ
 bestCost C w = trialCost C w false (bestTrial C w false) + trialCost C w true (bestTrial C w true)
-
--- whether texture is lent
-abbrev pub textured : Case → Bool
-textured C = ltb 0 (length (C .texture))
 
 -- the patterns in order: the entries below the count, and past them the contour, which has the number of the count
 abbrev pub patternAt : Case → ℕ → ℕ

@@ -7,7 +7,6 @@ use native.Mathlib.Omega.{arith}
 use lib.ListN.{length, getD, replicate}
 use borrow.Author.Tests.{le-leb, lt-leb}
 use Rattle.arith.specs.Distance.{dist}
-use Rattle.arith.specs.Lists.{listOf}
 use Rattle.arith.proofs.Sums.{sum-le}
 use Rattle.arith.proofs.ListLaws.{listOf-at, stored-all}
 use Rattle.side_cost.specs.Cost.{belongs, sideCost, sideCosts}

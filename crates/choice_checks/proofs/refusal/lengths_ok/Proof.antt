@@ -3,10 +3,10 @@ use mathlib.Core.Path.{sym, _∙_}
 use native.Mathlib.Omega.{arith}
 use borrow.Author.Tests.{eq-eqb, ne-eqb, not-true, not-false}
 use Rattle.pattern.proofs.SizeLaws.{square-64}
-use Rattle.choice.specs.Answer.{lengthsOk}
+use Rattle.choice_checks.specs.Refusal.{lengthsOk}
 use borrow.Author.Needs.{needs}
-use Rattle.choice.proofs.refusal.lengths_ok.Statement.{statement}
-use Rattle.choice.proofs.refusal.lengths_ok.Tie as tie
+use Rattle.choice_checks.proofs.refusal.lengths_ok.Statement.{statement}
+use Rattle.choice_checks.proofs.refusal.lengths_ok.Tie as tie
 
 mul-if1 : tie.Need-mul-if1
 mul-if1 c = search needs

@@ -1,7 +1,7 @@
 -- `some_pattern` meets its contract, return by return. Assumes nothing.
 use borrow.Author.Tests.{lt-ltb, le-ltb}
-use Rattle.choice.proofs.refusal.some_pattern.Statement.{statement}
-use Rattle.choice.proofs.refusal.some_pattern.Tie as tie
+use Rattle.choice_checks.proofs.refusal.some_pattern.Statement.{statement}
+use Rattle.choice_checks.proofs.refusal.some_pattern.Tie as tie
 
 returns : tie.Need-returns
 returns c = rw (lt-ltb _ _ (c .if1 .taken))

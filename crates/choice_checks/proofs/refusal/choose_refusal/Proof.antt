@@ -2,10 +2,10 @@
 use mathlib.Core.Path.{sym, _∙_}
 use borrow.Author.Tests.{not-true, not-false}
 use Rattle.pattern.proofs.SizeLaws.{size-bounds}
-use Rattle.choice.specs.Record.{Case, caseOf}
-use Rattle.choice.proofs.AcceptLaws.{lengths-are, refused-size, refused-length, refused-rest}
-use Rattle.choice.proofs.refusal.choose_refusal.Statement.{statement}
-use Rattle.choice.proofs.refusal.choose_refusal.Tie as tie
+use Rattle.choice_checks.specs.Case.{Case, caseOf}
+use Rattle.choice_checks.proofs.AcceptLaws.{lengths-are, refused-size, refused-length, refused-rest}
+use Rattle.choice_checks.proofs.refusal.choose_refusal.Statement.{statement}
+use Rattle.choice_checks.proofs.refusal.choose_refusal.Tie as tie
 
 -- the case
 abbrev given : (c : tie.Start) → Case

@@ -4,8 +4,8 @@ ghost use mathlib.Core.Bool.{_||_};
 ghost use Prim.Native.Nat.{_*_, _≤_};
 ghost use lib.Dec.{eqb, ltb};
 ghost use lib.ListN.{length};
-ghost use Rattle.choice.specs.Record.{caseOf};
-ghost use Rattle.choice.specs.Answer.{lengthsOk, wordsOk, chooseRefusal};
+ghost use Rattle.choice_checks.specs.Case.{caseOf};
+ghost use Rattle.choice_checks.specs.Refusal.{lengthsOk, wordsOk, chooseRefusal};
 use pattern::check;
 use pattern::count_ok;
 
@@ -68,7 +68,7 @@ fn some_pattern(count: usize, texture: usize) -> bool
 }
 
 // The number of the first check that fails, 0 for none.
-pub(crate) fn choose_refusal(
+pub fn choose_refusal(
     n: usize,
     list: &[u64],
     count: usize,

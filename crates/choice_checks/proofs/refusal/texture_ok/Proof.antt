@@ -2,8 +2,8 @@
 use native.Mathlib.Omega.{arith}
 use borrow.Author.Tests.{eq-eqb, ne-eqb}
 use Rattle.pattern.proofs.SizeLaws.{square-64}
-use Rattle.choice.proofs.refusal.texture_ok.Statement.{statement}
-use Rattle.choice.proofs.refusal.texture_ok.Tie as tie
+use Rattle.choice_checks.proofs.refusal.texture_ok.Statement.{statement}
+use Rattle.choice_checks.proofs.refusal.texture_ok.Tie as tie
 
 returns : tie.Need-returns
 returns c = rw (eq-eqb _ _ (c .if1 .taken))

@@ -15,9 +15,8 @@ use Rattle.arith.proofs.LeastLaws.{last-or-below}
 use Rattle.depth_table.specs.Table.{tableOk}
 use Rattle.pattern.specs.Size.{sizeOk, wordOk}
 use Rattle.pattern.proofs.SizeLaws.{size-bounds}
-use Rattle.choice.specs.Record.{Case}
-use Rattle.choice.specs.Search.{textured}
-use Rattle.choice.specs.Answer.{lengthsOk, wordsOk, chooseRefusal}
+use Rattle.choice_checks.specs.Case.{Case, textured}
+use Rattle.choice_checks.specs.Refusal.{lengthsOk, wordsOk, chooseRefusal}
 
 -- ---- lengths
 

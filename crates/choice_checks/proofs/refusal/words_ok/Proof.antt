@@ -8,9 +8,9 @@ use borrow.Author.Needs.{needs}
 use borrow.Author.Tests.{not-true, not-false}
 use lib.ListN.{getD}
 use Rattle.pattern.specs.Size.{wordOk}
-use Rattle.choice.proofs.AcceptLaws.{words-all, words-bad}
-use Rattle.choice.proofs.refusal.words_ok.Statement.{statement}
-use Rattle.choice.proofs.refusal.words_ok.Tie as tie
+use Rattle.choice_checks.proofs.AcceptLaws.{words-all, words-bad}
+use Rattle.choice_checks.proofs.refusal.words_ok.Statement.{statement}
+use Rattle.choice_checks.proofs.refusal.words_ok.Tie as tie
 
 abbrev Inv-loop : tie.InvT-loop
 Inv-loop n list count k₀ k = (k ≤ count) × ((i : ℕ) → i < k → wordOk n (getD list i 0) ≡ true)
