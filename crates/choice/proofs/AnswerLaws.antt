@@ -10,11 +10,13 @@ use mir.Val.{SFits}
 use Rattle.arith.specs.Checks.{Answer, refused, given, answer}
 use Rattle.arith.proofs.CheckLaws.{answer-refused, answer-given}
 use Rattle.arith.proofs.LeastLaws.{leastTo-first}
-use Rattle.choice.specs.Offset.{offset}
-use Rattle.choice.specs.Record.{Case, Record}
+use Rattle.side_cost.specs.Offset.{offset}
+use Rattle.choice_checks.specs.Case.{Case}
+use Rattle.choice_checks.specs.Refusal.{chooseRefusal}
+use Rattle.choice.specs.Record.{Record}
 use Rattle.choice.specs.Search.{trialCost, bestTrial, bestCost, patternAt, recordBy, recordAt, chosen}
-use Rattle.choice.specs.Tally.{PickedOf}
-use Rattle.choice.specs.Answer.{chooseRefusal, chooseAnswer, LeastGiven}
+use Rattle.choice.specs.Picked.{PickedOf}
+use Rattle.choice.specs.Answer.{chooseAnswer, LeastGiven}
 use Rattle.choice.proofs.LeastLaws.{answer-least}
 
 -- offsets with a number below 512 fit 32 bits

@@ -9,14 +9,16 @@ use lib.ListN.{length}
 use Rattle.arith.specs.Checks.{answer}
 use Rattle.arith.specs.Least.{First, leastTo}
 use Rattle.arith.proofs.LeastLaws.{leastTo-first}
-use Rattle.choice.specs.Offset.{InReach, trial, offset}
-use Rattle.choice.specs.Record.{Case, Record, PatternIn, Within, patternOf, costOf, Before, LeastRecord, OneLeast}
-use Rattle.choice.specs.Search.{textured, trialCost, bestTrial, bestCost, patternAt, lastPattern, bestPattern, recordAt, chosen}
-use Rattle.choice.specs.Answer.{chooseRefusal, chooseAnswer, LeastGiven}
-use Rattle.choice.proofs.OffsetLaws.{trial-offset, trial-in, in-offset, sooner-trial, same-offset}
+use Rattle.side_cost.specs.Offset.{InReach, trial, offset}
+use Rattle.choice_checks.specs.Case.{Case, textured}
+use Rattle.choice_checks.specs.Refusal.{chooseRefusal}
+use Rattle.choice_checks.proofs.AcceptLaws.{accepted}
+use Rattle.choice.specs.Record.{Record, PatternIn, Within, patternOf, costOf, Before, LeastRecord, OneLeast}
+use Rattle.choice.specs.Search.{trialCost, bestTrial, bestCost, patternAt, lastPattern, bestPattern, recordAt, chosen}
+use Rattle.choice.specs.Answer.{chooseAnswer, LeastGiven}
+use Rattle.side_cost.proofs.OffsetLaws.{trial-offset, trial-in, in-offset, sooner-trial, same-offset}
 use Rattle.choice.proofs.SideLaws.{cost-trials}
 use Rattle.choice.proofs.NumberLaws.{parts-least, parts-first, numberOf, number-in, number-pattern, number-before, number-either, at-in, at-number}
-use Rattle.choice.proofs.AcceptLaws.{accepted}
 
 module _ (C : Case) where
   -- the number of a record's pattern

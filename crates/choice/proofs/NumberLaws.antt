@@ -11,8 +11,9 @@ use borrow.Author.Tests.{lt-ltb, le-ltb, ltb-true}
 use Rattle.arith.specs.Least.{leastTo}
 use Rattle.arith.proofs.Bools.{clash}
 use Rattle.arith.proofs.LeastLaws.{leastTo-first}
-use Rattle.choice.specs.Record.{Case, PatternIn, patternBy}
-use Rattle.choice.specs.Search.{textured, patternAt, lastPattern}
+use Rattle.choice_checks.specs.Case.{Case, textured}
+use Rattle.choice.specs.Record.{PatternIn, patternBy}
+use Rattle.choice.specs.Search.{patternAt, lastPattern}
 
 -- ---- a cost of two parts, each with a number of its own, both at most N
 

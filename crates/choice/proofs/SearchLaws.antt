@@ -18,11 +18,12 @@ use Rattle.pattern.specs.Size.{sizeOk, wordOk}
 use Rattle.pattern.specs.Answer.{samplesRefusal, contourAnswer}
 use Rattle.pattern.specs.Contour.{threshold, contourOf}
 use Rattle.pattern.proofs.ContourLaws.{contour-lt}
-use Rattle.sides.specs.Answer.{sidesRefusal}
-use Rattle.choice.specs.Record.{Case}
+use Rattle.sides.proofs.CallLaws.{sides-pass}
+use Rattle.side_cost.specs.Trial.{TrialOf}
+use Rattle.choice_checks.specs.Case.{Case}
+use Rattle.choice_checks.proofs.AcceptLaws.{Accepted, words-at}
 use Rattle.choice.specs.Search.{trialCost, bestCost, patternAt, lastPattern, bestPattern}
-use Rattle.choice.specs.Tally.{TrialOf, blockCase, Weighable, SidesOf, PickedOf}
-use Rattle.choice.proofs.AcceptLaws.{Accepted, words-at}
+use Rattle.choice.specs.Picked.{blockCase, Weighable, SidesOf, PickedOf}
 
 -- ---- one pattern
 
@@ -84,10 +85,6 @@ last-le true count = omega arith
 last-le false count = omega arith
 
 -- ---- every pattern of an accepted case can be weighed
-
-sides-pass : (n w : ℕ) (s : List ℕ) → sizeOk n ≡ true → length s ≡ 4 * n → wordOk n w ≡ true → sidesRefusal n w s ≡ 0
-unfolding sidesRefusal
-sides-pass n w s ok long inside = rw (ok, eq-eqb (length s) (4 * n) long, inside)
 
 module _ (C : Case) (k : Accepted C) where
   -- its marks are samples of the block

@@ -1,21 +1,22 @@
--- The cost of a prediction splits by partition; what a partition costs is at most 255 a sample. Assumes nothing.
-use Prim.Native.Nat.{ℕ, _+_, _*_, _≤_, _<_}
+-- The cost of a prediction splits by partition. Assumes nothing.
+use Prim.Native.Nat.{ℕ, _+_, _*_}
 use mathlib.Core.Path.{_≡_, sym, ap, _∙_}
 use mathlib.Core.Bool.{Bool, true, false, cond, not}
-use mathlib.Core.List.{List}
 use native.Mathlib.Omega.{arith}
 use lib.IntN.{ℤ}
 use lib.ListN.{getD}
 use Rattle.arith.specs.Bits.{testBit}
 use Rattle.arith.specs.Distance.{dist}
-use Rattle.arith.proofs.Sums.{sum-ext, sum-add, sum-le}
+use Rattle.arith.proofs.Sums.{sum-ext, sum-add}
 use Rattle.arith.proofs.ListLaws.{listOf-at}
 use Rattle.sides.specs.Sides.{sideDepth}
 use Rattle.prediction.specs.Block.{levelOf, sampleOf, predicted}
-use Rattle.choice.specs.Offset.{trial}
-use Rattle.choice.specs.Record.{Case, predictionBy, difference}
-use Rattle.choice.specs.Search.{belongs, sideCost, trialCost}
-use Rattle.choice.proofs.OffsetLaws.{offset-trial}
+use Rattle.side_cost.specs.Offset.{trial}
+use Rattle.side_cost.specs.Cost.{sideCost}
+use Rattle.side_cost.proofs.OffsetLaws.{offset-trial}
+use Rattle.choice_checks.specs.Case.{Case}
+use Rattle.choice.specs.Record.{predictionBy, difference}
+use Rattle.choice.specs.Search.{trialCost}
 
 -- one sample: its own partition pays, the other does not
 one-sample : (m : Bool) (f : Bool → ℕ) (x : ℕ) → dist (f m) x ≡ cond (not m) (dist (f false) x) 0 + cond m (dist (f true) x) 0
@@ -43,13 +44,3 @@ pub cost-trials :
     (C : Case) (w : ℕ) (a b : ℤ)
     → difference C (predictionBy C w a b) ≡ trialCost C w false (trial a) + trialCost C w true (trial b)
 cost-trials C w a b = cost-split C w a b ∙ sym (rw (offset-trial a, offset-trial b))
-
--- bytes cost at most 255 each
-term-le : (b : Bool) (v x : ℕ) → v < 256 → x < 256 → cond b (dist v x) 0 ≤ 255
-term-le true v x p q = omega arith
-term-le false v x p q = omega arith
-
-pub sideCost-le :
-    (c : ℕ) (samples : List ℕ) (w : ℕ) (m : Bool) (v : ℕ) → v < 256 → ((k : ℕ) → getD samples k 0 < 256) → sideCost c samples w m v ≤ c * 255
-unfolding sideCost
-sideCost-le c samples w m v p q = sum-le _ 255 c (λ k l. term-le (belongs w m k) v (getD samples k 0) p (q k))

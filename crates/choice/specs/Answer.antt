@@ -1,41 +1,13 @@
--- What `choose` answers: refusals in document 01's order, and the record. Assumes nothing.
-use Prim.Native.Nat.{ℕ, zero, suc, _*_}
-use mathlib.Core.Bool.{Bool, true, _&&_, _||_}
-use mathlib.Core.List.{List}
-use lib.Dec.{eqb, leb, ltb}
-use lib.ListN.{length, getD}
-use Rattle.arith.specs.Checks.{unless, Answer, refused, given, answer}
-use Rattle.depth_table.specs.Table.{tableOk}
-use Rattle.pattern.specs.Size.{sizeOk, wordOk}
-use Rattle.pattern.specs.Answer.{countOk}
-use Rattle.choice.specs.Record.{Case, Record, LeastRecord}
-use Rattle.choice.specs.Search.{textured, chosen}
+-- What `choose` answers: the refusal, or the record. Assumes nothing.
+use Prim.Native.Nat.{ℕ}
+use Rattle.arith.specs.Checks.{Answer, refused, given, answer}
+use Rattle.choice_checks.specs.Case.{Case}
+use Rattle.choice_checks.specs.Refusal.{chooseRefusal}
+use Rattle.choice.specs.Record.{Record, LeastRecord}
+use Rattle.choice.specs.Search.{chosen}
 use Rattle.choice.specs.declared.Best.{Best}
 use Rattle.choice.specs.declared.Choice.{Choice}
 use Rattle.choice.specs.declared.Choice.the-variants.{Chosen, Refused}
-
--- 4n neighbours, n * n original samples, texture of none or n * n samples, and a count that the lent words and 9,999 allow
-unfoldable pub lengthsOk : ℕ → ℕ → ℕ → ℕ → ℕ → ℕ → Bool
-lengthsOk n words count neighbours samples texture =
-    eqb neighbours (4 * n)
-    && (eqb samples (n * n)
-    && ((eqb texture 0 || eqb texture (n * n))
-    && countOk words count))
-
--- the first k words of the list mark samples of the block only
-unfoldable pub wordsOk : ℕ → List ℕ → ℕ → Bool
-wordsOk n list zero = true
-wordsOk n list (suc k) = wordsOk n list k && wordOk n (getD list k 0)
-
--- 1: the size; 2: a length or the count; 3: the table; 5: a word below the count; 4: the reach; 10: no wedgelet and no texture
-unfoldable pub chooseRefusal : Case → ℕ
-chooseRefusal C =
-    unless (sizeOk (C .n)) 1
-    (unless (lengthsOk (C .n) (length (C .list)) (C .count) (length (C .neighbours)) (length (C .original)) (length (C .texture))) 2
-    (unless (tableOk (C .table)) 3
-    (unless (wordsOk (C .n) (C .list) (C .count)) 5
-    (unless (leb (C .reach) 255) 4
-    (unless (ltb 0 (C .count) || textured C) 10 0)))))
 
 -- the chosen record and its cost, or the refusal
 unfoldable pub chooseAnswer : Case → Answer (Record × ℕ)

@@ -16,10 +16,13 @@ use Rattle.pattern.specs.Contour.{threshold, contourOf}
 use Rattle.sides.specs.Sides.{vertEdge, horEdge, ltBy, brBy, lt, br, sideDepth}
 use Rattle.prediction.specs.Block.{levelOf, sampleOf, predicted}
 use Rattle.prediction.specs.Cases.{sampleNeighbours}
-use Rattle.choice.specs.Offset.{trial, offset}
-use Rattle.choice.specs.Record.{Case, caseOf, Record, difference, costOf}
-use Rattle.choice.specs.Search.{sideCost, bestCost, bestPattern, chosen}
-use Rattle.choice.specs.Answer.{lengthsOk, wordsOk, chooseRefusal, chooseAnswer}
+use Rattle.side_cost.specs.Offset.{offset}
+use Rattle.side_cost.specs.Cost.{sideCost}
+use Rattle.choice_checks.specs.Case.{Case, caseOf}
+use Rattle.choice_checks.specs.Refusal.{lengthsOk, wordsOk, chooseRefusal}
+use Rattle.choice.specs.Record.{Record, difference, costOf}
+use Rattle.choice.specs.Search.{bestCost, bestPattern, chosen}
+use Rattle.choice.specs.Answer.{chooseAnswer}
 
 -- the order of offsets between equals
 offsets : map offset (0 ∷ 1 ∷ 2 ∷ 3 ∷ 4 ∷ []) ≡ pos 0 ∷ negsuc 0 ∷ pos 1 ∷ negsuc 1 ∷ pos 2 ∷ []

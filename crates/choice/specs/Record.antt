@@ -9,33 +9,10 @@ use Rattle.arith.specs.Distance.{dist}
 use Rattle.arith.specs.Sum.{sumTo}
 use Rattle.pattern.specs.Contour.{contourOf}
 use Rattle.prediction.specs.Block.{predicted}
-use Rattle.choice.specs.Offset.{InReach, Sooner}
+use Rattle.side_cost.specs.Offset.{InReach, Sooner}
+use Rattle.choice_checks.specs.Case.{Case}
 
--- what a choice is given: the size, the wedgelet list (document 01: the edge list) and its count, the neighbours (the border), the
--- original samples, the depth table, the reach, and texture samples; no texture is the empty list
-pub record Case : Type 0 where
-  pub n : ℕ
-  pub list : List ℕ
-  pub count : ℕ
-  pub neighbours : List ℕ
-  pub original : List ℕ
-  pub table : List ℕ
-  pub reach : ℕ
-  pub texture : List ℕ
-
-abbrev pub caseOf : ℕ → List ℕ → ℕ → List ℕ → List ℕ → List ℕ → ℕ → List ℕ → Case
-caseOf n list count neighbours original table reach texture =
-    record {
-      n = n;
-      list = list;
-      count = count;
-      neighbours = neighbours;
-      original = original;
-      table = table;
-      reach = reach;
-      texture = texture;
-    }
-
+-- a record: its kind and entry, which name the pattern, and the offsets of partitions 0 and 1
 pub record Record : Type 0 where
   pub kind : ℕ
   pub entry : ℕ

@@ -1,27 +1,17 @@
 -- Document 01, "Choice", as a function: the cost of a record is what partition 0 costs at off0 and what partition 1 costs at off1, so
 -- each offset is chosen for itself, and then the pattern. Assumes nothing.
 use Prim.Native.Nat.{ℕ, _+_, _-_, _*_}
-use mathlib.Core.Bool.{Bool, true, false, cond, not}
-use mathlib.Core.List.{List}
+use mathlib.Core.Bool.{Bool, true, false, cond}
 use lib.Dec.{ltb}
-use lib.ListN.{length, getD}
-use Rattle.arith.specs.Bits.{testBit}
-use Rattle.arith.specs.Distance.{dist}
+use lib.ListN.{getD}
 use Rattle.arith.specs.Least.{leastTo}
-use Rattle.arith.specs.Sum.{sumTo}
 use Rattle.pattern.specs.Contour.{contourOf}
 use Rattle.sides.specs.Sides.{sideDepth}
 use Rattle.prediction.specs.Block.{levelOf}
-use Rattle.choice.specs.Offset.{offset}
-use Rattle.choice.specs.Record.{Case, Record}
-
--- whether sample k belongs to partition m of the pattern w: partition 1 has the marked samples, partition 0 the others
-abbrev pub belongs : ℕ → Bool → ℕ → Bool
-belongs w m k = cond m (testBit w k) (not (testBit w k))
-
--- what the samples of partition m, of the first c, cost where all of them are predicted as v
-unfoldable pub sideCost : ℕ → List ℕ → ℕ → Bool → ℕ → ℕ
-sideCost c samples w m v = sumTo (λ k. cond (belongs w m k) (dist v (getD samples k 0)) 0) c
+use Rattle.side_cost.specs.Offset.{offset}
+use Rattle.side_cost.specs.Cost.{sideCost}
+use Rattle.choice_checks.specs.Case.{Case, textured}
+use Rattle.choice.specs.Record.{Record}
 
 -- what partition m costs at the offset with the number t
 abbrev pub trialCost : Case → ℕ → Bool → ℕ → ℕ
@@ -35,10 +25,6 @@ bestTrial C w m = leastTo (trialCost C w m) (2 * C .reach)
 -- the least cost of a pattern
 unfoldable pub bestCost : Case → ℕ → ℕ
 bestCost C w = trialCost C w false (bestTrial C w false) + trialCost C w true (bestTrial C w true)
-
--- whether texture is lent
-abbrev pub textured : Case → Bool
-textured C = ltb 0 (length (C .texture))
 
 -- the patterns in order: the entries below the count, and past them the contour, which has the number of the count
 abbrev pub patternAt : Case → ℕ → ℕ

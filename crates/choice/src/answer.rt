@@ -1,15 +1,15 @@
 // The answer of a choice.
 ghost use mathlib.Core.Path.{_≡_};
 ghost use Prim.Native.Nat.{_<_, _≤_};
-ghost use Rattle.choice.specs.Offset.{offset};
-ghost use Rattle.choice.specs.Record.{caseOf};
+ghost use Rattle.side_cost.specs.Offset.{offset};
+ghost use Rattle.choice_checks.specs.Case.{caseOf};
 ghost use Rattle.choice.specs.Search.{recordBy};
 ghost use Rattle.choice.specs.Answer.{recordTold, chooseTold, chooseAnswer, LeastGiven};
 use crate::Best;
 use crate::Choice;
-use crate::refusal::choose_refusal;
 use crate::search::Picked;
 use crate::search::best_pattern;
+use choice_checks::choose_refusal;
 
 // The offset with the number t: 0, -1, 1, -2, 2 and so on.
 fn offset_of(t: usize) -> i32

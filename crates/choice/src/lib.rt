@@ -1,7 +1,5 @@
 // The choice of a record (document 01, "Choice").
 mod answer;
-mod partition;
-mod refusal;
 mod search;
 
 pub use answer::choose;

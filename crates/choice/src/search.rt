@@ -1,17 +1,38 @@
-// The pattern of least cost with its best offsets.
+// The best offsets of a pattern, and the pattern of least cost.
 ghost use mathlib.Core.Path.{_≡_};
 ghost use mathlib.Core.Bool.{cond};
 ghost use mathlib.Core.Logic.{_⊎_};
-ghost use Prim.Native.Nat.{_+_, _-_, _<_, _≤_};
+ghost use Prim.Native.Nat.{_-_, _*_, _≤_};
 ghost use lib.Dec.{ltb};
 ghost use lib.ListN.{length, getD};
 ghost use Rattle.pattern.specs.Answer.{samplesRefusal};
 ghost use Rattle.pattern.specs.Contour.{contourOf};
-ghost use Rattle.choice.specs.Record.{caseOf};
-ghost use Rattle.choice.specs.Answer.{chooseRefusal};
-ghost use Rattle.choice.specs.Tally.{blockCase, Weighable, SidesOf, PickedOf};
-use crate::partition::best_offset;
+ghost use Rattle.side_cost.specs.Trial.{TrialOf};
+ghost use Rattle.choice_checks.specs.Case.{caseOf};
+ghost use Rattle.choice_checks.specs.Refusal.{chooseRefusal};
+ghost use Rattle.choice.specs.Search.{trialCost};
+ghost use Rattle.choice.specs.Picked.{blockCase, Weighable, SidesOf, PickedOf};
 use pattern::Contoured;
+use side_cost::Trial;
+
+// The first best offset of a partition of a pattern, and what the partition costs there.
+fn best_offset(
+    n: usize,
+    word: u64,
+    side: bool,
+    border: &[u8],
+    original: &[u8],
+    table: &[u8],
+    reach: usize,
+) -> Trial
+    requires { ⌜ Weighable n word (now border) (now original) (now table) reach ⌝ }
+    ensures { λ r. ⌜ TrialOf (trialCost (blockCase n (now (border .entry)) (now (original .entry)) (now (table .entry)) reach) word side) (2 * reach) (r .number) (r .cost) × (r .cost ≤ 65280) ⌝ }
+{
+    let depth = sides::side_depth(n, word, border, side);
+    let index = depth_table::nearest_index(table, depth);
+    let costs = side_cost::side_costs(original, word, side);
+    side_cost::best_of_costs(&costs, table, index, reach)
+}
 
 // The numbers of the best offsets of both partitions of a pattern, and what it costs there.
 struct Sides {

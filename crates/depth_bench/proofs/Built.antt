@@ -11,8 +11,9 @@ use Rattle.pattern.specs.Size.{sizeOk}
 use Rattle.wedgelet.specs.Wedgelet.{wedgeletList}
 use Rattle.wedgelet.specs.Answer.{needed, listRefusal, listAnswer, listAfter}
 use Rattle.wedgelet.proofs.AnswerLaws.{words-enough}
-use Rattle.choice.specs.Record.{Case, caseOf}
-use Rattle.choice.specs.Answer.{chooseRefusal, chooseAnswer}
+use Rattle.choice_checks.specs.Case.{Case, caseOf}
+use Rattle.choice_checks.specs.Refusal.{chooseRefusal}
+use Rattle.choice.specs.Answer.{chooseAnswer}
 use Rattle.depth_bench.specs.Structs.{builtCase}
 
 -- 756 words are enough, so only the size is refused

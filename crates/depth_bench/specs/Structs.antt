@@ -6,7 +6,8 @@ use lib.ListN.{length, replicate}
 use Rattle.arith.specs.Checks.{Answer, refused, given}
 use Rattle.wedgelet.specs.Answer.{listAfter}
 use Rattle.wedgelet.specs.Wedgelet.{wedgeletList}
-use Rattle.choice.specs.Record.{Case, caseOf, Record}
+use Rattle.choice_checks.specs.Case.{Case, caseOf}
+use Rattle.choice.specs.Record.{Record}
 use Rattle.depth_bench.specs.declared.Prediction.{Prediction}
 use Rattle.depth_bench.specs.declared.Choice.{Choice}
 

@@ -16,9 +16,10 @@ use Rattle.pattern.specs.Answer.{samplesRefusal, contourAnswer}
 use Rattle.pattern.specs.Contour.{contourOf}
 use Rattle.prediction.specs.Offset.{offsetOk}
 use Rattle.prediction.specs.Answer.{lengthsOk, predictRefusal, predictBlock}
-use Rattle.choice.specs.Offset.{InReach}
-use Rattle.choice.specs.Record.{Case, Record, Within, patternBy, patternOf, predictionOf}
-use Rattle.choice.proofs.AcceptLaws.{Accepted}
+use Rattle.side_cost.specs.Offset.{InReach}
+use Rattle.choice_checks.specs.Case.{Case}
+use Rattle.choice.specs.Record.{Record, Within, patternBy, patternOf, predictionOf}
+use Rattle.choice_checks.proofs.AcceptLaws.{Accepted}
 use Rattle.choice.proofs.NumberLaws.{numberOf, number-pattern}
 use Rattle.choice.proofs.SearchLaws.{texture-judged, pattern-inside}
 

@@ -14,9 +14,9 @@ use Rattle.arith.proofs.SquareLaws.{length-transposed, transposed-twice}
 use Rattle.wedgelet.specs.Wedgelet.{wedgeletList}
 use Rattle.wedgelet.specs.Answer.{listRefusal, listAnswer, listAfter}
 use Rattle.sides.proofs.TransposedLaws.{length-transposed-neighbours, neighbours-transposed-twice}
-use Rattle.choice.specs.Record.{Case, caseOf}
-use Rattle.choice.specs.Answer.{chooseRefusal}
-use Rattle.choice.proofs.AcceptLaws.{Accepted, accepted, accept}
+use Rattle.choice_checks.specs.Case.{Case, caseOf}
+use Rattle.choice_checks.specs.Refusal.{chooseRefusal}
+use Rattle.choice_checks.proofs.AcceptLaws.{Accepted, accepted, accept}
 use Rattle.diagonal.specs.Law.{AsBuilt, transposedTexture, transposedCase}
 
 -- ---- the list as built

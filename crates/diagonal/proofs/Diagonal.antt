@@ -8,10 +8,12 @@ use Rattle.arith.specs.Checks.{given}
 use Rattle.arith.proofs.CheckLaws.{answer-given}
 use Rattle.sides.specs.Transposed.{EndsDecide}
 use Rattle.sides.proofs.TransposedLaws.{ends-transposed}
-use Rattle.choice.specs.Record.{Case, Record, Within, LeastRecord}
+use Rattle.choice_checks.specs.Case.{Case}
+use Rattle.choice_checks.specs.Refusal.{chooseRefusal}
+use Rattle.choice.specs.Record.{Record, Within, LeastRecord}
 use Rattle.choice.specs.Search.{chosen}
-use Rattle.choice.specs.Answer.{chooseRefusal, chooseAnswer}
-use Rattle.choice.proofs.AcceptLaws.{Accepted, accepted}
+use Rattle.choice.specs.Answer.{chooseAnswer}
+use Rattle.choice_checks.proofs.AcceptLaws.{Accepted, accepted}
 use Rattle.choice.proofs.LeastLaws.{chosen-least}
 use Rattle.diagonal.specs.Law.{AsBuilt, transposedCase, OnePartner, OneCost, DiagonalLaw}
 use Rattle.diagonal.proofs.CallLaws.{contour-answers, predict-writes}

@@ -17,8 +17,9 @@ use Rattle.wedgelet.proofs.WedgeletLaws.{list-closed}
 use Rattle.sides.specs.Transposed.{transposedNeighbours, EndsDecide}
 use Rattle.prediction.specs.Block.{predicted}
 use Rattle.prediction.proofs.TransposedLaws.{prediction-transposed}
-use Rattle.choice.specs.Record.{Case, Record, PatternIn, Within, patternBy, patternOf, predictionOf, difference, costOf}
-use Rattle.choice.proofs.AcceptLaws.{Accepted}
+use Rattle.choice_checks.specs.Case.{Case}
+use Rattle.choice.specs.Record.{Record, PatternIn, Within, patternBy, patternOf, predictionOf, difference, costOf}
+use Rattle.choice_checks.proofs.AcceptLaws.{Accepted}
 use Rattle.choice.proofs.LeastLaws.{same-record}
 use Rattle.diagonal.specs.Law.{AsBuilt, transposedCase, Partner, OnePartner}
 use Rattle.diagonal.proofs.CaseLaws.{built-at, texture-length, texture-lent}

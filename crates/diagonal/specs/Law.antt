@@ -13,8 +13,10 @@ use Rattle.pattern.specs.Answer.{contourAnswer}
 use Rattle.wedgelet.specs.Answer.{listAnswer, listAfter}
 use Rattle.prediction.specs.Answer.{predictBlock}
 use Rattle.sides.specs.Transposed.{transposedNeighbours, EndsDecide}
-use Rattle.choice.specs.Record.{Case, caseOf, Record, Within, patternOf, predictionOf, costOf, LeastRecord}
-use Rattle.choice.specs.Answer.{chooseRefusal, chooseAnswer}
+use Rattle.choice_checks.specs.Case.{Case, caseOf}
+use Rattle.choice_checks.specs.Refusal.{chooseRefusal}
+use Rattle.choice.specs.Record.{Record, Within, patternOf, predictionOf, costOf, LeastRecord}
+use Rattle.choice.specs.Answer.{chooseAnswer}
 
 -- The wedgelet list as built is the one for n, with its count. Words past the count do not matter.
 pub record AsBuilt (n : ℕ) (list : List ℕ) (count : ℕ) : Type 0 where

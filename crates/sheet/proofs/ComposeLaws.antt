@@ -12,11 +12,11 @@ use Rattle.arith.proofs.ListLaws.{length-listOf}
 use Rattle.depth_table.specs.Table.{tableOk}
 use Rattle.pattern.proofs.SizeLaws.{one-le-square}
 use Rattle.prediction.specs.Offset.{offsetOk}
+use Rattle.choice_checks.specs.Refusal.{chooseRefusal}
 use Rattle.choice.specs.Record.{PatternIn, LeastRecord}
 use Rattle.choice.specs.Search.{chosen}
-use Rattle.choice.specs.Answer.{chooseRefusal}
-use Rattle.choice.proofs.AcceptLaws as accept
-use Rattle.choice.proofs.AcceptLaws.{words-at, accepted}
+use Rattle.choice_checks.proofs.AcceptLaws as accept
+use Rattle.choice_checks.proofs.AcceptLaws.{words-at, accepted}
 use Rattle.choice.proofs.LeastLaws.{chosen-least}
 use Rattle.sheet.specs.Neighbours.{neighbours, neighboursAt}
 use Rattle.sheet.specs.Samples.{cut}

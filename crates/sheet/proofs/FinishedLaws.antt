@@ -11,8 +11,8 @@ use Rattle.arith.specs.Checks.{unless}
 use Rattle.depth_table.specs.Table.{tableOk}
 use Rattle.pattern.specs.Size.{sizeOk, wordOk}
 use Rattle.prediction.specs.Offset.{offsetOk}
+use Rattle.choice_checks.specs.Refusal.{wordsOk}
 use Rattle.choice.specs.Record.{Record}
-use Rattle.choice.specs.Answer.{wordsOk}
 use Rattle.sheet.specs.State.{blocksOf, sidesOk, lengthsOk, stateRefusal, openRefusal}
 use Rattle.sheet.specs.Meaning.{kindRefusal, offsetRefusal, recordRefusal}
 use Rattle.sheet.specs.Place.{Material, textured, placeRefusal}

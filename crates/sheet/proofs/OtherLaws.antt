@@ -9,7 +9,8 @@ use lib.Arith.{digits-lt, digits-div, digits-mod}
 use lib.ListN.{length, getD}
 use Rattle.arith.specs.Square.{place}
 use Rattle.arith.proofs.Bools.{clash, both-of}
-use Rattle.choice.specs.Record.{caseOf, Record, predictionOf}
+use Rattle.choice_checks.specs.Case.{caseOf}
+use Rattle.choice.specs.Record.{Record, predictionOf}
 use Rattle.sheet.specs.Grid.{sideOk, blockX, blockY, blockHolding}
 use Rattle.sheet.specs.Samples.{covers, written}
 use Rattle.sheet.specs.State.{area, blocksOf, nextX, nextY, Open}

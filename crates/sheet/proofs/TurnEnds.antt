@@ -11,9 +11,10 @@ use Rattle.arith.specs.Checks.{Answer, refused, given, answer}
 use Rattle.arith.specs.Lists.{listOf}
 use Rattle.arith.proofs.CheckLaws.{lent-refused, lent-given, given-means, refused-means}
 use Rattle.depth_table.specs.Table.{tableOk}
+use Rattle.choice_checks.specs.Refusal.{chooseRefusal}
 use Rattle.choice.specs.Record.{Record}
 use Rattle.choice.specs.Search.{chosen}
-use Rattle.choice.specs.Answer.{chooseRefusal, chooseAnswer}
+use Rattle.choice.specs.Answer.{chooseAnswer}
 use Rattle.sheet.specs.State.{area, blocksOf, finished, Open, Lengths}
 use Rattle.sheet.specs.Place.{placeRefusal}
 use Rattle.sheet.specs.Compose.{missing, Task, composeCase, chosenNext, composedTo, over, Leaves, choiceRefusal, Ready}

@@ -9,9 +9,10 @@ use lib.ListN.{length, drop}
 use Rattle.arith.specs.Checks.{unless, Answer, answer, lent}
 use Rattle.arith.specs.Lists.{listOf}
 use Rattle.depth_table.specs.Table.{tableOk}
-use Rattle.choice.specs.Record.{Case, Record}
+use Rattle.choice_checks.specs.Case.{Case}
+use Rattle.choice_checks.specs.Refusal.{wordsOk}
+use Rattle.choice.specs.Record.{Record}
 use Rattle.choice.specs.Search.{chosen}
-use Rattle.choice.specs.Answer.{wordsOk}
 use Rattle.sheet.specs.Samples.{cut}
 use Rattle.sheet.specs.State.{after, area, blocksOf, finished, nextX, nextY, lengthsOk, openRefusal, Open, Lengths}
 use Rattle.sheet.specs.Place.{Material, textured, nextCase, placedSamples}

@@ -14,8 +14,9 @@ use Rattle.depth_table.specs.Table.{bytes, rising, tableOk, nearestTo, indexOf}
 use Rattle.sides.specs.Sides.{vertEdge, horEdge, ltBy, brBy, lt, br, sideDepth}
 use Rattle.prediction.specs.Offset.{offsetOk}
 use Rattle.prediction.specs.Block.{levelOf, sampleOf, predicted}
+use Rattle.side_cost.specs.Cost.{sideCost}
 use Rattle.choice.specs.Record.{Record}
-use Rattle.choice.specs.Search.{sideCost, bestCost, bestPattern, chosen}
+use Rattle.choice.specs.Search.{bestCost, bestPattern, chosen}
 use Rattle.sheet.specs.Grid.{sideOk, blockX, blockY, blockHolding}
 use Rattle.sheet.specs.Neighbours.{leftSource, topSource, neighboursAt, neighbours}
 use Rattle.sheet.specs.Samples.{written, cut}

@@ -10,7 +10,8 @@ use Rattle.arith.specs.Checks.{Answer, answer, lent}
 use Rattle.depth_table.specs.Table.{tableOk}
 use Rattle.pattern.specs.Size.{wordOk}
 use Rattle.prediction.specs.Offset.{offsetOk}
-use Rattle.choice.specs.Record.{Case, caseOf, Record, patternBy, predictionOf}
+use Rattle.choice_checks.specs.Case.{Case, caseOf}
+use Rattle.choice.specs.Record.{Record, patternBy, predictionOf}
 use Rattle.sheet.specs.Neighbours.{neighbours}
 use Rattle.sheet.specs.Samples.{written, cut}
 use Rattle.sheet.specs.State.{after, nextX, nextY, lengthsOk, openRefusal}

@@ -1,9 +1,9 @@
 -- `choose` meets its contract: the refusal, or what was picked; and an answer that is the definition's is least. Assumes nothing.
 use mathlib.Core.Path.{_≡_, sym, _∙_}
-use Rattle.choice.specs.Record.{Case, caseOf}
-use Rattle.choice.specs.Answer.{chooseRefusal}
-use Rattle.choice.specs.Tally.{PickedOf}
-use Rattle.choice.proofs.AcceptLaws.{accepted}
+use Rattle.choice_checks.specs.Case.{Case, caseOf}
+use Rattle.choice_checks.specs.Refusal.{chooseRefusal}
+use Rattle.choice_checks.proofs.AcceptLaws.{accepted}
+use Rattle.choice.specs.Picked.{PickedOf}
 use Rattle.choice.proofs.AnswerLaws.{picked-small, told-refused, told-given, told-least}
 use Rattle.choice.proofs.answer.choose.Statement.{statement}
 use Rattle.choice.proofs.answer.choose.Tie as tie

@@ -7,8 +7,8 @@ use native.Mathlib.Omega.{arith}
 use borrow.Author.Needs.{needs}
 use lib.Dec.{ltb}
 use lib.ListN.{length}
-use Rattle.choice.specs.Record.{Case, caseOf}
-use Rattle.choice.proofs.AcceptLaws.{Accepted, accepted}
+use Rattle.choice_checks.specs.Case.{Case, caseOf}
+use Rattle.choice_checks.proofs.AcceptLaws.{Accepted, accepted}
 use Rattle.choice.proofs.SearchLaws.{sides-at, texture-judged, pattern-by, last-le, weighable, KeptSides, sides-one, sides-new, sides-old, sides-all}
 use Rattle.choice.proofs.search.best_pattern.Statement.{statement}
 use Rattle.choice.proofs.search.best_pattern.Tie as tie

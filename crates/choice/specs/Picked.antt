@@ -1,0 +1,32 @@
+-- What the search answers step by step: the best offsets of a pattern, and the best pattern. Assumes nothing.
+use Prim.Native.Nat.{ℕ, _*_, _≤_}
+use mathlib.Core.Path.{_≡_}
+use mathlib.Core.Bool.{true, false}
+use mathlib.Core.List.{List, []}
+use lib.ListN.{length}
+use Rattle.depth_table.specs.Table.{tableOk}
+use Rattle.sides.specs.Answer.{sidesRefusal}
+use Rattle.choice_checks.specs.Case.{Case, caseOf}
+use Rattle.choice.specs.Search.{bestTrial, bestCost, patternAt, bestPattern}
+
+-- a case without patterns: what the cost of one pattern depends on
+abbrev pub blockCase : ℕ → List ℕ → List ℕ → List ℕ → ℕ → Case
+blockCase n neighbours original table reach = caseOf n [] 0 neighbours original table reach []
+
+-- what weighing the pattern w relies on
+pub record Weighable (n w : ℕ) (neighbours original table : List ℕ) (reach : ℕ) : Type 0 where
+  pub sides : sidesRefusal n w neighbours ≡ 0
+  pub square : length original ≡ n * n
+  pub sound : tableOk table ≡ true
+  pub near : reach ≤ 255
+
+-- the numbers of the best offsets of a pattern, and its cost there
+pub record SidesOf (C : Case) (w trial0 trial1 cost : ℕ) : Type 0 where
+  pub first : trial0 ≡ bestTrial C w false
+  pub second : trial1 ≡ bestTrial C w true
+  pub its-cost : cost ≡ bestCost C w
+
+-- the number of the chosen pattern, those of its offsets, and its cost
+pub record PickedOf (C : Case) (number trial0 trial1 cost : ℕ) : Type 0 where
+  pub best : number ≡ bestPattern C
+  pub sides : SidesOf C (patternAt C number) trial0 trial1 cost

@@ -1,0 +1,2 @@
+-- Laws of the checks of a choice.
+pub mod AcceptLaws

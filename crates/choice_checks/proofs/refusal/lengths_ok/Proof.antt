@@ -1,0 +1,44 @@
+-- `lengths_ok` meets its contract: each return comes of the tests that led there. Assumes nothing.
+use mathlib.Core.Path.{sym, _∙_}
+use native.Mathlib.Omega.{arith}
+use borrow.Author.Tests.{eq-eqb, ne-eqb, not-true, not-false}
+use Rattle.pattern.proofs.SizeLaws.{square-64}
+use Rattle.choice_checks.specs.Refusal.{lengthsOk}
+use borrow.Author.Needs.{needs}
+use Rattle.choice_checks.proofs.refusal.lengths_ok.Statement.{statement}
+use Rattle.choice_checks.proofs.refusal.lengths_ok.Tie as tie
+
+mul-if1 : tie.Need-mul-if1
+mul-if1 c = search needs
+
+returns : tie.Need-returns
+unfolding lengthsOk
+returns c = rw (ne-eqb _ _ (c .if1 .taken))
+
+mul-if2 : tie.Need-mul-if2
+mul-if2 c = omega (arith, square-64 (c .before .pre))
+
+returns-2 : tie.Need-returns-2
+unfolding lengthsOk
+returns-2 c = rw (eq-eqb _ _ (c .before .if1 .left), ne-eqb _ _ (c .if2 .taken))
+
+texture-ok-requires : tie.Need-texture-ok-requires
+texture-ok-requires c κs = search needs
+
+returns-3 : tie.Need-returns-3
+unfolding lengthsOk
+returns-3 c = rw (eq-eqb _ _ (c .before .before .before .if1 .left), eq-eqb _ _ (c .before .before .if2 .left), sym (c .before .texture-ok .ensures) ∙ not-true _ (c .if3 .taken))
+
+count-ok-requires : tie.Need-count-ok-requires
+count-ok-requires c κs = tt
+
+returns-4 : tie.Need-returns-4
+unfolding lengthsOk
+returns-4 c =
+    rw (eq-eqb _ _ (c .before .before .before .before .if1 .left), eq-eqb _ _ (c .before .before .before .if2 .left), sym (c .before .before .texture-ok .ensures) ∙ not-false _ (c .before .if3 .left))
+    (c .count-ok .ensures)
+
+pub lengths-ok-spec : {M : Type 1} → statement M
+lengths-ok-spec =
+    tie.close
+    (tie.spec mul-if1 returns mul-if2 returns-2 texture-ok-requires returns-3 count-ok-requires returns-4)

@@ -1,0 +1,5 @@
+-- Laws of what one partition costs.
+pub mod OffsetLaws
+pub mod CostLaws
+pub mod TallyLaws
+pub mod TrialLaws
