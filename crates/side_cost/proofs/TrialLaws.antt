@@ -70,6 +70,7 @@ trial-of-same {f} {g} {N} {at} e p =
 
 -- ---- what `best_of_costs` answers
 
+-- what the bounds mean, and that they are met
 pub bounded-means : (count i R : ℕ) → bounded count i R ≡ true → (i < count) × (count ≤ 256) × (R < 256)
 unfolding bounded
 bounded-means count i R h =
@@ -82,11 +83,13 @@ unfolding bounded
 bounded-by count i R h l r = rw (lt-ltb i count h, le-leb count 256 l, le-leb R 255 r)
 
 module _ (costs table : List ℕ) (i R : ℕ) where
+  -- 0 and 0 out of bounds
   pub best-none : bounded (length table) i R ≡ false → (0, 0) ≡ bestOfCosts costs table i R
   unfolding bestOfCosts
   best-none h = rw h
 
   module _ (h : bounded (length table) i R ≡ true) {number cost : ℕ} where
+    -- within the bounds the first least and its cost, and the other way round
     pub best-by : TrialOf (costAt costs table i) (2 * R) number cost → (number, cost) ≡ bestOfCosts costs table i R
     unfolding bestOfCosts
     best-by p =
