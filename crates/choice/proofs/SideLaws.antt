@@ -10,7 +10,8 @@ use Rattle.arith.specs.Distance.{dist}
 use Rattle.arith.proofs.Sums.{sum-ext, sum-add}
 use Rattle.arith.proofs.ListLaws.{listOf-at}
 use Rattle.sides.specs.Sides.{sideDepth}
-use Rattle.prediction.specs.Block.{levelOf, sampleOf, predicted}
+use Rattle.offset.specs.Offset.{levelOf}
+use Rattle.prediction.specs.Block.{sampleOf, predicted}
 use Rattle.side_cost.specs.Offset.{trial}
 use Rattle.side_cost.specs.Cost.{sideCost}
 use Rattle.side_cost.proofs.OffsetLaws.{offset-trial}

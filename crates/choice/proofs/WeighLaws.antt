@@ -15,7 +15,7 @@ use Rattle.pattern.proofs.SizeLaws.{square-64}
 use Rattle.sides.specs.Sides.{sideDepth}
 use Rattle.sides.specs.Answer.{sidesRefusal}
 use Rattle.sides.proofs.CallLaws.{sides-accepted}
-use Rattle.prediction.specs.Block.{levelOf}
+use Rattle.offset.specs.Offset.{levelOf}
 use Rattle.side_cost.specs.Offset.{offset}
 use Rattle.side_cost.specs.Cost.{sideCost, sideCosts}
 use Rattle.side_cost.specs.Trial.{TrialOf, costAt, bounded, bestOfCosts}

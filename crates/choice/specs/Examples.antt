@@ -14,7 +14,8 @@ use Rattle.depth_table.specs.Table.{bytes, rising, tableOk, nearestTo, indexOf}
 use Rattle.depth_table.specs.Examples.{sampleTable}
 use Rattle.pattern.specs.Contour.{threshold, contourOf}
 use Rattle.sides.specs.Sides.{vertEdge, horEdge, ltBy, brBy, lt, br, sideDepth}
-use Rattle.prediction.specs.Block.{levelOf, sampleOf, predicted}
+use Rattle.offset.specs.Offset.{levelOf}
+use Rattle.prediction.specs.Block.{sampleOf, predicted}
 use Rattle.prediction.specs.Cases.{sampleNeighbours}
 use Rattle.side_cost.specs.Offset.{offset}
 use Rattle.side_cost.specs.Cost.{sideCost}

@@ -7,7 +7,7 @@ use lib.ListN.{getD}
 use Rattle.arith.specs.Least.{leastTo}
 use Rattle.pattern.specs.Contour.{contourOf}
 use Rattle.sides.specs.Sides.{sideDepth}
-use Rattle.prediction.specs.Block.{levelOf}
+use Rattle.offset.specs.Offset.{levelOf}
 use Rattle.side_cost.specs.Offset.{offset}
 use Rattle.side_cost.specs.Cost.{sideCost}
 use Rattle.choice_checks.specs.Case.{Case, textured}

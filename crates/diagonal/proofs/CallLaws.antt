@@ -14,7 +14,7 @@ use Rattle.arith.proofs.CheckLaws.{answer-given, lent-given}
 use Rattle.pattern.specs.Size.{wordOk}
 use Rattle.pattern.specs.Answer.{samplesRefusal, contourAnswer}
 use Rattle.pattern.specs.Contour.{contourOf}
-use Rattle.prediction.specs.Offset.{offsetOk}
+use Rattle.offset.specs.Offset.{offsetOk}
 use Rattle.prediction.specs.Answer.{lengthsOk, predictRefusal, predictBlock}
 use Rattle.side_cost.specs.Offset.{InReach}
 use Rattle.choice_checks.specs.Case.{Case}

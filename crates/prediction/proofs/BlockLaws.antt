@@ -15,19 +15,8 @@ use Rattle.depth_table.specs.Table.{tableOk, indexOf}
 use Rattle.depth_table.proofs.TableLaws.{table-bytes}
 use Rattle.sides.specs.Sides.{sideDepth}
 use Rattle.sides.specs.Answer.{sidesRefusal}
-use Rattle.prediction.specs.Block.{levelOf, sampleOf, predicted}
-
--- every value of a sound table is below 256
-pub level-byte : (t : List ℕ) (d : ℕ) (off : ℤ) → tableOk t ≡ true → levelOf t d off < 256
-unfolding levelOf
-level-byte t d off ok = table-bytes t ok (clamped (length t) (indexOf t d) off)
-
--- the level of a depth by the code's two steps: the index i of the depth, and the place k of the clamped sum
-pub level-at :
-    (t : List ℕ) (d : ℕ) {i k : ℕ} {z : ℤ} (off : ℤ)
-    → k ≡ clamped (length t) i z → i ≡ indexOf t d → z ≡ off → getD t k 0 ≡ levelOf t d off
-unfolding levelOf
-level-at t d off e p o = ap (λ (x : ℕ). getD t x 0) (e ∙ ap₂ (clamped (length t)) p o)
+use Rattle.offset.specs.Offset.{levelOf}
+use Rattle.prediction.specs.Block.{sampleOf, predicted}
 
 -- the level v of the samples with the mark m, by the steps that the code takes
 pub level-found :

@@ -19,7 +19,7 @@ use Rattle.pattern.proofs.PatternLaws.{marks-counted}
 use Rattle.pattern.proofs.SizeLaws.{size-bounds}
 use Rattle.sides.specs.Answer.{sidesRefusal}
 use Rattle.sides.proofs.CallLaws.{sides-pass}
-use Rattle.prediction.specs.Offset.{offsetOk}
+use Rattle.offset.specs.Offset.{offsetOk}
 use Rattle.prediction.specs.Answer.{lengthsOk, predictRefusal, predictAnswer}
 
 -- the checks of offsets that are read from their bits

@@ -14,7 +14,8 @@ use Rattle.pattern.specs.Pattern.{transposed}
 use Rattle.pattern.proofs.PatternLaws.{transposed-bit}
 use Rattle.sides.specs.Transposed.{transposedNeighbours, EndsDecide}
 use Rattle.sides.proofs.TransposedLaws.{side-depth-transposed}
-use Rattle.prediction.specs.Block.{levelOf, sampleOf, predicted}
+use Rattle.offset.specs.Offset.{levelOf}
+use Rattle.prediction.specs.Block.{sampleOf, predicted}
 use Rattle.prediction.proofs.BlockLaws.{predicted-at}
 
 module _ (n w : ℕ) (s : List ℕ) (long : length s ≡ 4 * n) (d : EndsDecide n s) where

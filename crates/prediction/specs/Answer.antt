@@ -9,7 +9,7 @@ use lib.ListN.{length}
 use Rattle.arith.specs.Checks.{unless, Answer, refused, given, answer, lent}
 use Rattle.depth_table.specs.Table.{tableOk}
 use Rattle.pattern.specs.Size.{sizeOk, wordOk}
-use Rattle.prediction.specs.Offset.{offsetOk}
+use Rattle.offset.specs.Offset.{offsetOk}
 use Rattle.prediction.specs.Block.{predicted}
 use Rattle.prediction.specs.declared.Predicted.{Predicted}
 use Rattle.prediction.specs.declared.Predicted.the-variants as block

@@ -3,16 +3,10 @@ use Prim.Native.Nat.{ℕ, _*_}
 use mathlib.Core.Bool.{Bool, cond}
 use mathlib.Core.List.{List}
 use lib.IntN.{ℤ}
-use lib.ListN.{length, getD}
 use Rattle.arith.specs.Bits.{testBit}
-use Rattle.arith.specs.Distance.{clamped}
 use Rattle.arith.specs.Lists.{listOf}
-use Rattle.depth_table.specs.Table.{indexOf}
+use Rattle.offset.specs.Offset.{levelOf}
 use Rattle.sides.specs.Sides.{sideDepth}
-
--- the table value at: the index of the depth d, plus the offset, clamped (document 01: held) to 0 .. table count - 1
-unfoldable pub levelOf : List ℕ → ℕ → ℤ → ℕ
-levelOf t d off = getD t (clamped (length t) (indexOf t d) off) 0
 
 -- the predicted value of the samples whose mark is m: off1 goes to marked samples, off0 to unmarked ones
 unfoldable pub sampleOf : ℕ → ℕ → List ℕ → List ℕ → ℤ → ℤ → Bool → ℕ

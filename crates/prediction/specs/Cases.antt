@@ -12,7 +12,8 @@ use Rattle.depth_table.specs.Examples.{sampleTable}
 use Rattle.pattern.specs.Pattern.{transposed}
 use Rattle.wedgelet.specs.Wedgelet.{candidate, wedgelet, holds, keep, ends, starts, wedgeletList}
 use Rattle.sides.specs.Sides.{vertEdge, horEdge, ltBy, brBy, lt, br, sideDepth}
-use Rattle.prediction.specs.Block.{levelOf, sampleOf, predicted}
+use Rattle.offset.specs.Offset.{levelOf}
+use Rattle.prediction.specs.Block.{sampleOf, predicted}
 use Rattle.sides.specs.Transposed.{transposedNeighbours}
 
 -- L = 10, 20 .. 70 and the given L7; T = 100, 110 .. 170

@@ -9,7 +9,6 @@ ghost use Rattle.sides.specs.Answer.{sidesRefusal};
 ghost use Rattle.prediction.specs.Block.{sampleOf};
 ghost use Rattle.prediction.specs.Answer.{lengthsOk, predictRefusal, predictAnswer, predictBlock, predictTold};
 use crate::Predicted;
-use crate::offset;
 use pattern::check;
 
 // a where m holds, else b.

@@ -12,7 +12,7 @@ use Rattle.arith.proofs.Bools.{both-of}
 use Rattle.arith.proofs.CheckLaws.{passed}
 use Rattle.depth_table.specs.Table.{bytes, rising}
 use Rattle.pattern.specs.Size.{wordOk}
-use Rattle.prediction.specs.Offset.{offsetOk}
+use Rattle.offset.specs.Offset.{offsetOk}
 use Rattle.choice.specs.Record.{Record}
 use Rattle.sheet.specs.Meaning.{kindRefusal, offsetRefusal, recordRefusal}
 use Rattle.sheet.proofs.MeaningLaws.{kind-kept, kind-passed}

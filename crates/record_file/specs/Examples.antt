@@ -8,7 +8,7 @@ use Rattle.arith.specs.Checks.{given, refused}
 use Rattle.arith.specs.Lists.{listOf}
 use Rattle.depth_table.specs.Table.{tableOk, bytes, rising}
 use Rattle.depth_table.specs.Examples.{sampleTable}
-use Rattle.prediction.specs.Offset.{offsetOk}
+use Rattle.offset.specs.Offset.{offsetOk}
 use Rattle.sheet.specs.State.{stateOf, stateRefusal}
 use Rattle.sheet.specs.Meaning.{recordRefusal}
 use Rattle.record_text.specs.declared.cursor.RecordFields.{RecordFields}

@@ -72,11 +72,11 @@ pub fn record_refusal(n: usize, list: &[u64], count: usize, textured: bool, r: R
         return kind;
     }
     let off0 = r.off0;
-    if !prediction::offset_ok(off0) {
+    if !offset::offset_ok(off0) {
         return 4;
     }
     let off1 = r.off1;
-    if !prediction::offset_ok(off1) {
+    if !offset::offset_ok(off1) {
         return 4;
     }
     0

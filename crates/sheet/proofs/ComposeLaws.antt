@@ -11,7 +11,7 @@ use lib.ListN.{length}
 use Rattle.arith.proofs.ListLaws.{length-listOf}
 use Rattle.depth_table.specs.Table.{tableOk}
 use Rattle.pattern.proofs.SizeLaws.{one-le-square}
-use Rattle.prediction.specs.Offset.{offsetOk}
+use Rattle.offset.specs.Offset.{offsetOk}
 use Rattle.choice_checks.specs.Refusal.{chooseRefusal}
 use Rattle.choice.specs.Record.{PatternIn, LeastRecord}
 use Rattle.choice.specs.Search.{chosen}

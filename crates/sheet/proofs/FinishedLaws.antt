@@ -10,7 +10,7 @@ use lib.ListN.{length, getD}
 use Rattle.arith.specs.Checks.{unless}
 use Rattle.depth_table.specs.Table.{tableOk}
 use Rattle.pattern.specs.Size.{sizeOk, wordOk}
-use Rattle.prediction.specs.Offset.{offsetOk}
+use Rattle.offset.specs.Offset.{offsetOk}
 use Rattle.choice_checks.specs.Refusal.{wordsOk}
 use Rattle.choice.specs.Record.{Record}
 use Rattle.sheet.specs.State.{blocksOf, sidesOk, lengthsOk, stateRefusal, openRefusal}

@@ -9,7 +9,7 @@ use Rattle.arith.specs.Checks.{unless, refused, given, answer}
 use Rattle.arith.proofs.Bools.{clash, both-of}
 use Rattle.arith.proofs.CheckLaws.{answer-refused, answer-given, lent-refused, lent-given, given-means, refused-means}
 use Rattle.prediction.specs.Block.{predicted}
-use Rattle.prediction.specs.Offset.{offsetOk}
+use Rattle.offset.specs.Offset.{offsetOk}
 use Rattle.choice.specs.Record.{Record, patternBy}
 use Rattle.sheet.specs.Neighbours.{neighbours}
 use Rattle.sheet.specs.Samples.{written}

@@ -12,8 +12,8 @@ use Rattle.arith.specs.Sum.{sumTo}
 use Rattle.depth_table.specs.Examples.{sampleTable}
 use Rattle.depth_table.specs.Table.{bytes, rising, tableOk, nearestTo, indexOf}
 use Rattle.sides.specs.Sides.{vertEdge, horEdge, ltBy, brBy, lt, br, sideDepth}
-use Rattle.prediction.specs.Offset.{offsetOk}
-use Rattle.prediction.specs.Block.{levelOf, sampleOf, predicted}
+use Rattle.offset.specs.Offset.{offsetOk, levelOf}
+use Rattle.prediction.specs.Block.{sampleOf, predicted}
 use Rattle.side_cost.specs.Cost.{sideCost}
 use Rattle.choice.specs.Record.{Record}
 use Rattle.choice.specs.Search.{bestCost, bestPattern, chosen}

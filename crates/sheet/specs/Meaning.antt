@@ -7,7 +7,7 @@ use lib.IntN.{ℤ}
 use lib.ListN.{getD}
 use Rattle.arith.specs.Checks.{unless}
 use Rattle.pattern.specs.Size.{wordOk}
-use Rattle.prediction.specs.Offset.{offsetOk}
+use Rattle.offset.specs.Offset.{offsetOk}
 use Rattle.choice.specs.Record.{Record}
 
 abbrev pub recordOf : ℕ → ℕ → ℤ → ℤ → Record

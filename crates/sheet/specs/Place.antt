@@ -9,7 +9,7 @@ use lib.ListN.{length}
 use Rattle.arith.specs.Checks.{Answer, answer, lent}
 use Rattle.depth_table.specs.Table.{tableOk}
 use Rattle.pattern.specs.Size.{wordOk}
-use Rattle.prediction.specs.Offset.{offsetOk}
+use Rattle.offset.specs.Offset.{offsetOk}
 use Rattle.choice_checks.specs.Case.{Case, caseOf}
 use Rattle.choice.specs.Record.{Record, patternBy, predictionOf}
 use Rattle.sheet.specs.Neighbours.{neighbours}

@@ -9,7 +9,7 @@ ghost use Rattle.arith.specs.Checks.{unless, answer};
 ghost use Rattle.pattern.specs.Contour.{contourOf};
 ghost use Rattle.pattern.specs.Size.{wordOk};
 ghost use Rattle.prediction.specs.Block.{predicted};
-ghost use Rattle.prediction.specs.Offset.{offsetOk};
+ghost use Rattle.offset.specs.Offset.{offsetOk};
 ghost use Rattle.sheet.specs.Neighbours.{neighbours};
 ghost use Rattle.sheet.specs.Samples.{written, cut};
 ghost use Rattle.sheet.specs.State.{after, area, nextX, nextY, Open};
@@ -36,10 +36,10 @@ pub(crate) enum Meaning {
 fn offsets_ok(off0: i32, off1: i32) -> bool
     ensures { λ r. ⌜ r ≡ (offsetOk off0 && offsetOk off1) ⌝ }
 {
-    if !prediction::offset_ok(off0) {
+    if !offset::offset_ok(off0) {
         return false;
     }
-    prediction::offset_ok(off1)
+    offset::offset_ok(off1)
 }
 
 // Kind 0: the word that the list has at the entry, or refusal 6 or 5.

@@ -16,7 +16,7 @@ use Rattle.arith.proofs.ListLaws.{length-listOf, listOf-at}
 use Rattle.depth_table.specs.Table.{tableOk}
 use Rattle.sides.specs.Sides.{sideDepth}
 use Rattle.prediction.specs.Block.{sampleOf, predicted}
-use Rattle.prediction.proofs.BlockLaws.{level-byte}
+use Rattle.offset.proofs.LevelLaws.{level-byte}
 use Rattle.choice.specs.Record.{Record, patternOf, predictionOf}
 use Rattle.sheet.specs.declared.Sheet.{Sheet}
 use Rattle.sheet.specs.Grid.{sideOk}

@@ -12,8 +12,8 @@ use Rattle.depth_table.specs.Examples.{sampleTable}
 use Rattle.depth_table.specs.Table.{nearestTo, indexOf}
 use Rattle.wedgelet.specs.Wedgelet.{candidate, wedgelet, holds, keep, ends, starts, wedgeletList}
 use Rattle.sides.specs.Sides.{vertEdge, horEdge, ltBy, brBy, lt, br, sideDepth}
-use Rattle.prediction.specs.Offset.{offsetOk}
-use Rattle.prediction.specs.Block.{levelOf, sampleOf, predicted}
+use Rattle.offset.specs.Offset.{offsetOk, levelOf}
+use Rattle.prediction.specs.Block.{sampleOf, predicted}
 use Rattle.sheet.specs.Neighbours.{leftSource, topSource, neighboursAt}
 use Rattle.sheet.specs.Samples.{written}
 use Rattle.sheet.specs.Meaning.{recordRefusal}

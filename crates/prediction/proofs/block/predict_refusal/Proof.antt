@@ -5,7 +5,7 @@ use mir.ValLaws.{toZ-ofZ}
 use borrow.Author.Tests.{not-true, not-false}
 use Rattle.pattern.proofs.SizeLaws.{size-bounds}
 use Rattle.arith.proofs.CheckLaws.{checked}
-use Rattle.prediction.specs.Offset.{offsetOk}
+use Rattle.offset.specs.Offset.{offsetOk}
 use Rattle.prediction.specs.Answer.{predictRefusal}
 use Rattle.prediction.proofs.block.predict_refusal.Statement.{statement}
 use Rattle.prediction.proofs.block.predict_refusal.Tie as tie

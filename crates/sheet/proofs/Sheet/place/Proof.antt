@@ -7,7 +7,7 @@ use mir.ValLaws.{toZ-ofZ}
 use borrow.Author.Tests.{not-true, not-false}
 use lib.ListN.{length}
 use Rattle.arith.specs.Checks.{given, answer}
-use Rattle.prediction.specs.Offset.{offsetOk}
+use Rattle.offset.specs.Offset.{offsetOk}
 use Rattle.choice.specs.Record.{Record}
 use Rattle.sheet.specs.State.{lengthsOk, openRefusal, Lengths}
 use Rattle.sheet.specs.Meaning.{recordOf, kindRefusal}

@@ -3,7 +3,7 @@ use borrow.Author.Needs.{needs}
 use native.Mathlib.Omega.{arith}
 use mir.Syntax.{w32}
 use mir.ValLaws.{toZ-ofZ}
-use Rattle.prediction.proofs.OffsetLaws.{steps-small, minus-fits, minus-cast, minus-steps, plus-cast}
+use Rattle.offset.proofs.OffsetLaws.{steps-small, minus-fits, minus-cast, minus-steps, plus-cast}
 use Rattle.vectors.proofs.output.magnitude.Statement.{statement}
 use Rattle.vectors.proofs.output.magnitude.Tie as tie
 

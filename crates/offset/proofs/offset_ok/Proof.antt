@@ -1,9 +1,9 @@
 -- `offset_ok` meets its contract, by the two tests.
 use mir.Syntax.{w32}
 use mir.ValLaws.{toZ-ofZ}
-use Rattle.prediction.proofs.OffsetLaws.{low, high, within}
-use Rattle.prediction.proofs.offset.offset_ok.Statement.{statement}
-use Rattle.prediction.proofs.offset.offset_ok.Tie as tie
+use Rattle.offset.proofs.OffsetLaws.{low, high, within}
+use Rattle.offset.proofs.offset_ok.Statement.{statement}
+use Rattle.offset.proofs.offset_ok.Tie as tie
 
 returns : tie.Need-returns
 returns c = low (toZ-ofZ w32 _ (c .before .fits .off)) (c .if1 .taken)

@@ -5,9 +5,9 @@ use denote.Ref.{now}
 use lib.ListN.{List·getD-eq-default}
 use mir.Syntax.{w32}
 use mir.ValLaws.{toZ-ofZ}
-use Rattle.prediction.proofs.BlockLaws.{level-at}
-use Rattle.prediction.proofs.offset.level.Statement.{statement}
-use Rattle.prediction.proofs.offset.level.Tie as tie
+use Rattle.offset.proofs.LevelLaws.{level-at}
+use Rattle.offset.proofs.level.Statement.{statement}
+use Rattle.offset.proofs.level.Tie as tie
 
 nearest-index-requires : tie.Need-nearest-index-requires
 nearest-index-requires c κs = tt

@@ -1,9 +1,8 @@
-// Offsets, and the table value that a depth and an offset give.
+// Offsets, and the table value that a depth and an offset give (document 01, "Predicted block").
 ghost use mathlib.Core.Path.{_≡_};
 ghost use Prim.Native.Nat.{_-_};
 ghost use Rattle.arith.specs.Distance.{clamped};
-ghost use Rattle.prediction.specs.Offset.{offsetOk};
-ghost use Rattle.prediction.specs.Block.{levelOf};
+ghost use Rattle.offset.specs.Offset.{offsetOk, levelOf};
 use depth_table::DepthIndex;
 use depth_table::DepthValue;
 use pattern::lesser;
@@ -46,7 +45,7 @@ fn clamped_place(count: usize, index: DepthIndex, off: i32) -> usize
 }
 
 // The table value at the index of a depth plus an offset, clamped; 0 in an empty table.
-pub(crate) fn level(table: &[u8], d: DepthValue, off: i32) -> u8
+pub fn level(table: &[u8], d: DepthValue, off: i32) -> u8
     ensures { λ r. ⌜ r ≡ levelOf (now (table .entry)) (d .0) off ⌝ }
 {
     let index = depth_table::nearest_index(table, d);

@@ -13,7 +13,7 @@ use mir.ValLaws.{toZ-ofZ}
 use borrow.Author.Tests.{le-leb, lt-leb, le-ltb, ltb-true, ltb-false}
 use Rattle.arith.specs.Distance.{clamped}
 use Rattle.arith.proofs.Bools.{clash}
-use Rattle.prediction.specs.Offset.{offsetOk}
+use Rattle.offset.specs.Offset.{offsetOk}
 
 -- ---- the range, by the tests `off < -255` and `off > 255`
 

@@ -3,9 +3,9 @@ use native.Mathlib.Omega.{arith}
 use borrow.Author.Needs.{needs}
 use mir.Syntax.{w32}
 use mir.ValLaws.{toZ-ofZ}
-use Rattle.prediction.proofs.OffsetLaws.{steps-small, minus-fits, minus-cast, minus-steps, clamped-down, plus-cast, plus-steps, clamped-up}
-use Rattle.prediction.proofs.offset.clamped_place.Statement.{statement}
-use Rattle.prediction.proofs.offset.clamped_place.Tie as tie
+use Rattle.offset.proofs.OffsetLaws.{steps-small, minus-fits, minus-cast, minus-steps, clamped-down, plus-cast, plus-steps, clamped-up}
+use Rattle.offset.proofs.clamped_place.Statement.{statement}
+use Rattle.offset.proofs.clamped_place.Tie as tie
 
 minus-requires : tie.Need-minus-requires
 minus-requires c κs = tt

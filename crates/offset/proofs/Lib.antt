@@ -1,0 +1,3 @@
+-- Laws of offsets.
+pub mod OffsetLaws
+pub mod LevelLaws

@@ -1,0 +1,2 @@
+-- Document 01, "Predicted block": offsets.
+pub mod Offset
