@@ -13,11 +13,11 @@ use Rattle.record_text.specs.Numeral.{numeralEnd}
 use Rattle.record_text.specs.Field.{numberText}
 use Rattle.record_text.specs.Line.{depthTitle}
 use Rattle.record_text.specs.Lines.{texts}
-use Rattle.record_text.specs.Put.{Put, Written, printedIf, numberPrintable}
 use Rattle.record_text.proofs.LengthLaws.{number-short, number-le}
 use Rattle.record_text.proofs.LinesLaws.{texts-more, texts-length}
-use Rattle.record_text.proofs.PutLaws.{put-written, printed-written}
-use Rattle.record_text.proofs.WriteSteps.{written-length, written-then}
+use Rattle.record_print.specs.Put.{Put, Written, printedIf, numberPrintable}
+use Rattle.record_print.proofs.PutLaws.{put-written, printed-written}
+use Rattle.record_print.proofs.WriteSteps.{written-length, written-then}
 use Rattle.sheet_text.specs.Printed.{sidesTitle, refusalTitle, pairText, byteAfter, sampleText, rowsText, sidesText, sheetText, refusalText}
 
 -- ---- two numbers on a line

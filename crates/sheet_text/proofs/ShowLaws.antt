@@ -15,8 +15,8 @@ use Rattle.sheet.specs.Compose.{recordsLent}
 use Rattle.sheet.proofs.InTurnLaws.{length-in-turn}
 use Rattle.record_text.specs.Numeral.{numeralEnd}
 use Rattle.record_text.specs.Lines.{Lined, refusedAt, read}
-use Rattle.record_text.specs.Put.{Written}
-use Rattle.record_text.proofs.PutLaws.{written-whole}
+use Rattle.record_print.specs.Put.{Written}
+use Rattle.record_print.proofs.PutLaws.{written-whole}
 use Rattle.record_read.specs.declared.reading.FileBack.{FileBack}
 use Rattle.record_file.specs.Reading.{File, Aids, readFile}
 use Rattle.record_read.specs.Back.{emptySheet, materialIn, recordIn, samplesBack, fileBack, leaving}

@@ -3,13 +3,13 @@ ghost use mathlib.Core.Path.{_≡_};
 ghost use Prim.Native.Nat.{_+_, _*_, _<_, _≤_};
 ghost use lib.ListN.{length};
 ghost use Rattle.record_text.specs.Numeral.{numeralEnd};
-ghost use Rattle.record_text.specs.Put.{Written};
+ghost use Rattle.record_print.specs.Put.{Written};
 ghost use Rattle.sheet_text.specs.Printed.{pairText, byteAfter, sidesText, rowsText, sheetText, refusalText};
 ghost use Rattle.sheet_text.specs.Showing.{showSpace};
+use record_print::put_depth_title;
+use record_print::put_number;
+use record_print::put_text;
 use record_text::Cursor;
-use record_text::put_depth_title;
-use record_text::put_number;
-use record_text::put_text;
 
 // A byte as a longer number.
 fn wide(b: u8) -> u32

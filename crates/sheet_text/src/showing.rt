@@ -3,7 +3,7 @@ ghost use mathlib.Core.Path.{_≡_};
 ghost use Prim.Native.Nat.{_≤_};
 ghost use mathlib.Core.List.{[]};
 ghost use lib.ListN.{length};
-ghost use Rattle.record_text.specs.Put.{Written};
+ghost use Rattle.record_print.specs.Put.{Written};
 ghost use Rattle.record_file.specs.Reading.{aidsOf};
 ghost use Rattle.sheet_text.specs.Showing.{sizeIn, Listing, textBy, readWith, showSpace, showAnswer, showAfter};
 ghost use Rattle.sheet_text.specs.Told.{shownTold};

@@ -3,7 +3,7 @@ use borrow.Author.Needs.{needs}
 use native.Mathlib.Omega.{arith}
 use mathlib.Core.Path.{subst}
 use Prim.Native.Nat.{ℕ}
-use Rattle.record_text.specs.Put.{Written}
+use Rattle.record_print.specs.Put.{Written}
 use Rattle.sheet_text.specs.Printed.{refusalTitle, pairText}
 use Rattle.sheet_text.proofs.PrintLaws.{title-written, title-room, refusal-written}
 use Rattle.sheet_text.proofs.printing.put_refusal.Statement.{statement}

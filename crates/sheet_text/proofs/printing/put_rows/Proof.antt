@@ -7,9 +7,9 @@ use lib.ListN.{length, getD}
 use Rattle.arith.specs.Lists.{listOf}
 use Rattle.record_text.specs.Field.{numberText}
 use Rattle.record_text.specs.Lines.{texts}
-use Rattle.record_text.specs.Put.{Put, Written, printedIf, numberPrintable}
-use Rattle.record_text.proofs.LoopLaws.{writing-start, line-more}
-use Rattle.record_text.proofs.WriteSteps.{written-length}
+use Rattle.record_print.specs.Put.{Put, Written, printedIf, numberPrintable}
+use Rattle.record_print.proofs.LoopLaws.{writing-start, line-more}
+use Rattle.record_print.proofs.WriteSteps.{written-length}
 use Rattle.sheet_text.specs.Printed.{sampleText}
 use Rattle.sheet_text.proofs.PrintLaws.{sample-printed, samples-short, rows-all}
 use Rattle.sheet_text.proofs.printing.put_rows.Statement.{statement}

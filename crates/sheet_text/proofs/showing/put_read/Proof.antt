@@ -8,7 +8,7 @@ use lib.IntN.{ℤ, pos}
 use lib.ListN.{length, replicate, length-replicate}
 use Rattle.sheet.specs.Compose.{recordsLent}
 use Rattle.record_text.specs.Lines.{Lined}
-use Rattle.record_text.proofs.WriteSteps.{written-as}
+use Rattle.record_print.proofs.WriteSteps.{written-as}
 use Rattle.record_file.specs.Reading.{File, Aids, aidsOf, readFile}
 use Rattle.record_read.specs.Back.{samplesBack, fileBack, leaving}
 use Rattle.sheet_text.specs.Showing.{textBy, readWith}
