@@ -1,8 +1,8 @@
 -- `byte_after` meets its contract: the test is the definition's.
 use borrow.Author.Needs.{needs}
 use borrow.Author.Tests.{eq-eqb, ne-eqb}
-use Rattle.sheet_text.proofs.printing.byte_after.Statement.{statement}
-use Rattle.sheet_text.proofs.printing.byte_after.Tie as tie
+use Rattle.sheet_print.proofs.printing.byte_after.Statement.{statement}
+use Rattle.sheet_print.proofs.printing.byte_after.Tie as tie
 
 add-if1 : tie.Need-add-if1
 add-if1 c = search needs

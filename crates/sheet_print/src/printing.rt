@@ -4,8 +4,8 @@ ghost use Prim.Native.Nat.{_+_, _*_, _<_, _≤_};
 ghost use lib.ListN.{length};
 ghost use Rattle.record_text.specs.Numeral.{numeralEnd};
 ghost use Rattle.record_print.specs.Put.{Written};
-ghost use Rattle.sheet_text.specs.Printed.{pairText, byteAfter, sidesText, rowsText, sheetText, refusalText};
-ghost use Rattle.sheet_text.specs.Showing.{showSpace};
+ghost use Rattle.sheet_print.specs.Printed.{pairText, byteAfter, sidesText, rowsText};
+ghost use Rattle.sheet_print.specs.Calls.{sheetPrintable, sheetPrinted, refusalPrintable, refusalPrinted};
 use record_print::put_depth_title;
 use record_print::put_number;
 use record_print::put_text;
@@ -40,7 +40,7 @@ fn put_pair(out: &mut [u8], from: Cursor, a: u32, b: u32) -> Cursor
 
 // The lines before the sample rows; the place after them.
 fn put_sides(out: &mut [u8], width: u32, height: u32) -> Cursor
-    requires { ⌜ (width ≤ 128) × (height ≤ 128) × (31 ≤ length (now out)) ⌝ }
+    requires { ⌜ (width ≤ 128) × (height ≤ 128) × (27 ≤ length (now out)) ⌝ }
     ensures { λ r. ⌜ Written (now (out .entry)) (now (out .exit)) 0 (sidesText width height) (r .at) ⌝ }
 {
     let title = put_text(out, Cursor { at: 0 }, b"width height\n");
@@ -50,8 +50,7 @@ fn put_sides(out: &mut [u8], width: u32, height: u32) -> Cursor
 
 // The sample rows; the place after them.
 fn put_rows(out: &mut [u8], from: Cursor, width: usize, height: usize, samples: &[u8]) -> Cursor
-    requires { ⌜ (0 < width) × (width * height ≤ 16384) × (width * height ≤ length (now samples)) ⌝ }
-    requires { ⌜ from .at + 4 * (width * height) ≤ length (now out) ⌝ }
+    requires { ⌜ (width * height ≤ 16384) × (width * height ≤ length (now samples)) × (from .at + 4 * (width * height) ≤ length (now out)) ⌝ }
     ensures { λ r. ⌜ Written (now (out .entry)) (now (out .exit)) (from .at) (rowsText width height (now (samples .entry))) (r .at) ⌝ }
 {
     let mut next = from;
@@ -63,22 +62,46 @@ fn put_rows(out: &mut [u8], from: Cursor, width: usize, height: usize, samples: 
     next
 }
 
-// The text of a sheet from the start of `out`; its length.
-pub(crate) fn put_sheet(out: &mut [u8], width: u32, height: u32, samples: &[u8]) -> usize
-    requires { ⌜ (0 < width) × (width ≤ 128) × (height ≤ 128) × (width * height ≤ length (now samples)) ⌝ }
-    requires { ⌜ showSpace ≤ length (now out) ⌝ }
-    ensures { λ r. ⌜ Written (now (out .entry)) (now (out .exit)) 0 (sheetText width height (now (samples .entry))) r ⌝ }
+// Whether a sheet's sides are in range, its samples are all lent, and there is room for its text.
+fn sheet_printable(width: u32, height: u32, lent: usize, room: usize) -> bool
+    ensures { λ r. ⌜ r ≡ sheetPrintable width height lent room ⌝ }
 {
+    if 128 < width {
+        return false;
+    }
+    if 128 < height {
+        return false;
+    }
+    let count = (width * height) as usize;
+    count <= lent && 27 + 4 * count <= room
+}
+
+// The text of a sheet from the start of `out`; its length. Nothing and 0 where it cannot be printed.
+pub fn put_sheet(out: &mut [u8], width: u32, height: u32, samples: &[u8]) -> usize
+    ensures { λ r. ⌜ Written (now (out .entry)) (now (out .exit)) 0 (sheetPrinted width height (now (samples .entry)) (length (now (out .entry)))) r ⌝ }
+{
+    if !sheet_printable(width, height, samples.len(), out.len()) {
+        return 0;
+    }
     let sides = put_sides(out, width, height);
     let end = put_rows(out, sides, width as usize, height as usize, samples);
     end.at
 }
 
-// The text of a refusal from the start of `out`; its length.
-pub(crate) fn put_refusal(out: &mut [u8], number: u8, line: u32) -> usize
-    requires { ⌜ (line < numeralEnd) × (25 ≤ length (now out)) ⌝ }
-    ensures { λ r. ⌜ Written (now (out .entry)) (now (out .exit)) 0 (refusalText number line) r ⌝ }
+// Whether a line has a numeral, and there is room for a refusal's text.
+fn refusal_printable(line: u32, room: usize) -> bool
+    ensures { λ r. ⌜ r ≡ refusalPrintable line room ⌝ }
 {
+    line < 100000 && 25 <= room
+}
+
+// The text of a refusal from the start of `out`; its length. Nothing and 0 where it cannot be printed.
+pub fn put_refusal(out: &mut [u8], number: u8, line: u32) -> usize
+    ensures { λ r. ⌜ Written (now (out .entry)) (now (out .exit)) 0 (refusalPrinted number line (length (now (out .entry)))) r ⌝ }
+{
+    if !refusal_printable(line, out.len()) {
+        return 0;
+    }
     let title = put_text(out, Cursor { at: 0 }, b"refusal line\n");
     let end = put_pair(out, title, wide(number), line);
     end.at

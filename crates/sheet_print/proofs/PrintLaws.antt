@@ -3,7 +3,7 @@ use Prim.Native.Nat.{ℕ, suc, zero, _+_, _*_, _≤_, _<_}
 use mathlib.Core.Path.{_≡_, refl, sym, _∙_, ap, ap₂, subst}
 use mathlib.Core.Bool.{true}
 use mathlib.Core.List.{List, _++_}
-use native.Mathlib.Nat.{mul-le-mul}
+use native.Mathlib.Nat.{mul-le-mul, zero-mul}
 use native.Mathlib.Omega.{arith}
 use borrow.Author.Tests.{lt-ltb}
 use lib.ListN.{length, getD, length-append}
@@ -18,7 +18,7 @@ use Rattle.record_text.proofs.LinesLaws.{texts-more, texts-length}
 use Rattle.record_print.specs.Put.{Put, Written, printedIf, numberPrintable}
 use Rattle.record_print.proofs.PutLaws.{put-written, printed-written}
 use Rattle.record_print.proofs.WriteSteps.{written-length, written-then}
-use Rattle.sheet_text.specs.Printed.{sidesTitle, refusalTitle, pairText, byteAfter, sampleText, rowsText, sidesText, sheetText, refusalText}
+use Rattle.sheet_print.specs.Printed.{sidesTitle, refusalTitle, pairText, byteAfter, sampleText, rowsText, sidesText, sheetText, refusalText}
 
 -- ---- two numbers on a line
 
@@ -55,6 +55,10 @@ refusal-written number line a b = written-then a b
 
 -- ---- the lines before the sample rows
 
+-- a sheet has at most 16,384 samples
+pub samples-few : (width height : ℕ) → width ≤ 128 → height ≤ 128 → width * height ≤ 16384
+samples-few width height w h = mul-le-mul {n₂ = 128} {m₂ = 128} w h
+
 module _ (width height : ℕ) (w : width ≤ 128) (h : height ≤ 128) where
   -- at most 27 bytes, written one after the other
   pub sides-short : length (sidesText width height) ≤ 27
@@ -62,7 +66,7 @@ module _ (width height : ℕ) (w : width ≤ 128) (h : height ≤ 128) where
   sides-short = simp length-append (omega (arith, number-short 32 2 width (omega arith), number-short 10 2 height (omega arith)))
 
   pub sides-written :
-      {l₀ l₁ l₂ l₃ : List ℕ} (c₁ c₂ c₃ : Cursor) → 31 ≤ length l₀ → Written l₀ l₁ 0 sidesTitle (c₁ .at)
+      {l₀ l₁ l₂ l₃ : List ℕ} (c₁ c₂ c₃ : Cursor) → 27 ≤ length l₀ → Written l₀ l₁ 0 sidesTitle (c₁ .at)
       → Written l₁ l₂ (c₁ .at) (pairText width height) (c₂ .at) → Put l₂ l₃ c₂ depthTitle c₃ → Written l₀ l₃ 0 (sidesText width height) (c₃ .at)
   unfolding sidesText
   sides-written c₁ c₂ c₃ r a b p =
@@ -82,11 +86,9 @@ module _ (width height : ℕ) (w : width ≤ 128) (h : height ≤ 128) where
 
   -- room for the rows after them
   pub rows-room :
-      {l₀ l₁ : List ℕ} {p : ℕ} → 27 + 4 * 16384 ≤ length l₀ → Written l₀ l₁ 0 (sidesText width height) p
+      {l₀ l₁ : List ℕ} {p : ℕ} → 27 + 4 * (width * height) ≤ length l₀ → Written l₀ l₁ 0 (sidesText width height) p
       → (width * height ≤ 16384) × (p + 4 * (width * height) ≤ length l₁)
-  rows-room r a =
-      let m : width * height ≤ 16384 = mul-le-mul {n₂ = 128} {m₂ = 128} w h in
-      (m, omega (arith, sides-short, a .place, written-length a))
+  rows-room r a = (samples-few width height w h, omega (arith, sides-short, a .place, written-length a))
 
 -- the whole text of a sheet
 pub sheet-written :
@@ -96,6 +98,11 @@ unfolding sheetText
 sheet-written width height samples a b = written-then a b
 
 -- ---- the sample rows
+
+-- where there is a sample, rows have a width
+pub some-width : (width height i : ℕ) → i < width * height → 0 < width
+some-width zero height i h = absurd (omega (arith, zero-mul height))
+some-width (suc width) height i h = omega arith
 
 -- every sample has a numeral
 pub sample-printed : (v : ℕ) → v < 256 → numberPrintable v ≡ true

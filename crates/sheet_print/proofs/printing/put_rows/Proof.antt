@@ -10,10 +10,10 @@ use Rattle.record_text.specs.Lines.{texts}
 use Rattle.record_print.specs.Put.{Put, Written, printedIf, numberPrintable}
 use Rattle.record_print.proofs.LoopLaws.{writing-start, line-more}
 use Rattle.record_print.proofs.WriteSteps.{written-length}
-use Rattle.sheet_text.specs.Printed.{sampleText}
-use Rattle.sheet_text.proofs.PrintLaws.{sample-printed, samples-short, rows-all}
-use Rattle.sheet_text.proofs.printing.put_rows.Statement.{statement}
-use Rattle.sheet_text.proofs.printing.put_rows.Tie as tie
+use Rattle.sheet_print.specs.Printed.{sampleText}
+use Rattle.sheet_print.proofs.PrintLaws.{some-width, sample-printed, samples-short, rows-all}
+use Rattle.sheet_print.proofs.printing.put_rows.Statement.{statement}
+use Rattle.sheet_print.proofs.printing.put_rows.Tie as tie
 
 abbrev Inv-loop : tie.InvT-loop
 Inv-loop out₀ width height samples next₀ i₀ i-end out next i =
@@ -37,7 +37,10 @@ wide-requires : tie.Need-wide-requires Inv-loop μ-loop
 wide-requires c κs = search needs
 
 byte-after-requires : tie.Need-byte-after-requires Inv-loop μ-loop
-byte-after-requires c κs = search needs
+byte-after-requires c κs =
+    let t = c .before .before in
+    let a = t .before .before .before .before .args in
+    (some-width (a .width) (a .height) (t .before .loop .i) (t .loop-test .taken), search needs)
 
 put-number-requires : tie.Need-put-number-requires Inv-loop μ-loop
 put-number-requires c κs = search needs
@@ -61,7 +64,7 @@ loop-again c =
     let f = sampleText (a .width) t in
     let w =
     line-more f (λ k. k) 4 m (samples-short (a .width) t byte m) (l .i) (numberPrintable (getD t (l .i) 0)) (sample-printed (getD t (l .i) 0) (byte (l .i))) h
-    (omega arith) (s .pre .1) (l .inv .0)
+    (omega arith) (s .pre .2) (l .inv .0)
     (subst (λ (e : ℕ). Put (l .out) (put .last .0) (l .next) (printedIf (numberPrintable (getD t (l .i) 0)) (numberText e (getD t (l .i) 0))) (put .result)) (c .before .before .before .before .byte-after .ensures)
     (subst (λ (v : ℕ). Put (l .out) (put .last .0) (l .next) (printedIf (numberPrintable v) (numberText (c .before .before .before .before .byte-after .result) v)) (put .result)) (c .before .before .before .before .before .wide .ensures) (put .ensures))) in
     (w, omega arith, written-length w)

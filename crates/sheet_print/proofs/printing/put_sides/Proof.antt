@@ -1,10 +1,10 @@
 -- `put_sides` meets its contract: three lines one after the other, with room for each.
 use borrow.Author.Needs.{needs}
 use native.Mathlib.Omega.{arith}
-use Rattle.sheet_text.specs.Printed.{sidesTitle}
-use Rattle.sheet_text.proofs.PrintLaws.{title-written, title-room, sides-written}
-use Rattle.sheet_text.proofs.printing.put_sides.Statement.{statement}
-use Rattle.sheet_text.proofs.printing.put_sides.Tie as tie
+use Rattle.sheet_print.specs.Printed.{sidesTitle}
+use Rattle.sheet_print.proofs.PrintLaws.{title-written, title-room, sides-written}
+use Rattle.sheet_print.proofs.printing.put_sides.Statement.{statement}
+use Rattle.sheet_print.proofs.printing.put_sides.Tie as tie
 
 slice-aggregate-put-text : tie.Need-slice-aggregate-put-text
 slice-aggregate-put-text c = search needs

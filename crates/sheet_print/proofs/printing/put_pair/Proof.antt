@@ -1,8 +1,8 @@
 -- `put_pair` meets its contract: one number after the other, with room for each.
 use borrow.Author.Needs.{needs}
-use Rattle.sheet_text.proofs.PrintLaws.{pair-written}
-use Rattle.sheet_text.proofs.printing.put_pair.Statement.{statement}
-use Rattle.sheet_text.proofs.printing.put_pair.Tie as tie
+use Rattle.sheet_print.proofs.PrintLaws.{pair-written}
+use Rattle.sheet_print.proofs.printing.put_pair.Statement.{statement}
+use Rattle.sheet_print.proofs.printing.put_pair.Tie as tie
 
 put-number-requires : tie.Need-put-number-requires
 put-number-requires c κs = search needs
