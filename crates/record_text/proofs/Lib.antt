@@ -6,7 +6,5 @@ pub mod LineLaws
 pub mod LengthLaws
 pub mod SignLaws
 pub mod ReadSteps
-pub mod WriteSteps
-pub mod PutLaws
 pub mod LinesLaws
 pub mod LoopLaws

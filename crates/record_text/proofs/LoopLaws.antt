@@ -1,23 +1,13 @@
--- Loops over lines: what a reading loop has read so far, and what a writing loop has written so far. Assumes nothing.
-use Prim.Native.Nat.{ℕ, suc, _+_, _-_, _*_, _≤_, _<_}
+-- A loop that reads lines: what it has read so far. Assumes nothing.
+use Prim.Native.Nat.{ℕ, suc, _+_, _-_, _≤_, _<_}
 use mathlib.Core.Path.{_≡_, refl, sym, _∙_, ap}
-use mathlib.Core.Bool.{Bool, true}
 use mathlib.Core.List.{List, [], _∷_, _++_, append-nil}
 use native.Mathlib.Nat.{add-zero, sub-zero}
-use native.Mathlib.Numerals.{add-one}
 use native.Mathlib.Omega.{arith}
-use lib.ListN.{length}
 use lib.Seq.{append-snoc}
-use Rattle.arith.specs.Lists.{listOf}
-use Rattle.record_text.specs.declared.cursor.Cursor.{Cursor}
 use Rattle.record_text.specs.Parsed.{Parser, badForm, found}
-use Rattle.record_text.specs.Lines.{Lined, refusedAt, read, linesThen, manyLines, texts}
-use Rattle.record_text.specs.Put.{Put, Written, printedIf}
-use Rattle.record_text.proofs.LinesLaws.{many-none, many-bad, many-refused, many-more, texts-more, texts-length}
-use Rattle.record_text.proofs.PutLaws.{printed-written}
-use Rattle.record_text.proofs.WriteSteps.{written-length, written-then, written-as}
-
--- ---- reading
+use Rattle.record_text.specs.Lines.{Lined, refusedAt, read, linesThen, manyLines}
+use Rattle.record_text.proofs.LinesLaws.{many-none, many-bad, many-refused, many-more}
 
 lines-same : {A : Type 0} (x : Lined A) → x ≡ linesThen x (λ a s. read a s)
 lines-same (refusedAt n k) = refl
@@ -71,28 +61,3 @@ module _ {S A : Type 0} (p : Parser A) (meaning : S → A → ℕ) (step : S →
     reading-end h =
         let e1 : m - i ≡ 0 = omega arith in
         now .left ∙ rw (e1, many-none p meaning step (k + i) c s, append-nil l)
-
--- ---- writing
-
-module _ {A : Type 0} (text : A → List ℕ) (f : ℕ → A) where
-  -- no line is written yet
-  pub writing-start : (l : List ℕ) (at : ℕ) → Written l l at (texts text (listOf f 0)) at
-  unfolding texts listOf
-  writing-start l at = record { lent = refl; place = omega arith }
-
-  -- one line more
-  pub writing-more :
-      {l₀ l l′ : List ℕ} {at p q : ℕ} (i : ℕ) → Written l₀ l at (texts text (listOf f i)) p → Written l l′ p (text (f i)) q
-      → Written l₀ l′ at (texts text (listOf f (i + 1))) q
-  writing-more i a b = written-as (written-then a b) (sym (texts-more text f i) ∙ ap (λ (k : ℕ). texts text (listOf f k)) (sym (add-one i)))
-
-module _ {A : Type 0} (text : A → List ℕ) (f : ℕ → A) (k m : ℕ) (short : (j : ℕ) → j < m → length (text (f j)) ≤ k) where
-  -- one line more, where there is room for m lines of at most k bytes each
-  pub line-more :
-      {l₀ l l′ : List ℕ} {at : ℕ} {from next : Cursor} (i : ℕ) (b : Bool) → b ≡ true → i < m → k * i + k ≤ k * m → at + k * m ≤ length l₀
-      → Written l₀ l at (texts text (listOf f i)) (from .at) → Put l l′ from (printedIf b (text (f i))) next
-      → Written l₀ l′ at (texts text (listOf f (i + 1))) (next .at)
-  line-more {l₀} {l} {l′} {at} {from} {next} i b e h room space w p =
-      let few = texts-length text f k i (λ j q. short j (omega arith)) in
-      writing-more text f i w
-      (printed-written e (omega (arith, w .place, few, short i h, written-length w)) p)

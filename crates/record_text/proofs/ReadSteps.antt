@@ -1,6 +1,7 @@
 -- The steps of reading as the code takes them, at a place p of the bytes s. Assumes nothing.
 use Prim.Native.Nat.{ℕ, zero, suc, _+_, _-_, _*_, _^_, _≤_, _<_}
 use mathlib.Core.Path.{_≡_, refl, sym, _∙_, ap}
+use mathlib.Core.Bool.{Bool, true, false, cond}
 use mathlib.Core.List.{List, [], _∷_}
 use native.Mathlib.Omega.{arith}
 use native.Mathlib.Nat.{mul-assoc, pow-succ', mul-le-mul-right, mul-le-mul-left, le-trans, pow-le-pow-right}
@@ -8,10 +9,11 @@ use native.Mathlib.Numerals.{add-one}
 use lib.ListN.{length, getD, drop, drop-of-length-le}
 use lib.Seq.{drop-cons}
 use lib.IntN.{ℤ, pos, negsuc}
-use borrow.Author.Tests.{lt-ltb, le-ltb, eq-eqb, ne-eqb}
+use lib.Dec.{ltb}
+use borrow.Author.Tests.{ltb-true, eq-eqb, ne-eqb}
 use Rattle.record_text.specs.Numeral.{numeralEnd}
 use Rattle.record_text.specs.Parsed.{Parsed, badForm, found, andThen, exactly}
-use Rattle.record_text.specs.Field.{ifDigit, moreDigits, digitRoom, number, afterMinus, afterNone, signed}
+use Rattle.record_text.specs.Field.{digitIn, ifDigit, moreDigits, digitRoom, number, afterMinus, afterNone, signed}
 
 -- what stands at p, and the rest
 pub at-place : (s : List ℕ) (p : ℕ) → p < length s → drop p s ≡ getD s p 0 ∷ drop (p + 1) s
@@ -22,15 +24,23 @@ past s p h = drop-of-length-le s h
 
 -- ---- is a byte a digit?
 
-module _ {A : Type 0} (b : ℕ) (x : Parsed A) where
-  digit-low : b < 48 → ifDigit b x ≡ badForm
-  digit-low h = rw (lt-ltb b 48 h)
+module _ {A : Type 0} (b d : ℕ) (x : Parsed A) (e : d ≡ digitIn b) where
+  -- one that is none, and one that is
+  digit-none : 9 < d → ifDigit b x ≡ badForm
+  digit-none h = go (ltb b 48) (ltb b 58) refl e
+    where
+      go : (l u : Bool) → ltb b 58 ≡ u → d ≡ cond l 10 (cond u (b - 48) 10) → cond l badForm (cond u x badForm) ≡ badForm
+      go true u q e = refl
+      go false true q e = absurd (omega (arith, ltb-true b 58 q))
+      go false false q e = refl
 
-  digit-high : 58 ≤ b → ifDigit b x ≡ badForm
-  digit-high h = rw (le-ltb b 48 (omega arith), le-ltb b 58 h)
-
-  digit-in : 48 ≤ b → b < 58 → ifDigit b x ≡ x
-  digit-in h l = rw (le-ltb b 48 h, lt-ltb b 58 l)
+  digit-some : d ≤ 9 → (ifDigit b x ≡ x) × (b - 48 ≡ d)
+  digit-some h = go (ltb b 48) (ltb b 58) e
+    where
+      go : (l u : Bool) → d ≡ cond l 10 (cond u (b - 48) 10) → (cond l badForm (cond u x badForm) ≡ x) × (b - 48 ≡ d)
+      go true u e = absurd (omega arith)
+      go false true e = (refl, sym e)
+      go false false e = absurd (omega arith)
 
 -- ---- one byte of a run of digits
 
@@ -49,23 +59,20 @@ module _ (e : ℕ) where
   more-full zero a b s h z = rw (ne-eqb b e h)
   more-full (suc k) a b s h z = absurd (omega arith)
 
-  pub more-low : (k a b : ℕ) (s : List ℕ) → (b ≡ e → ⊥) → b < 48 → moreDigits e k a (b ∷ s) ≡ badForm
+  pub more-none : (k a b d : ℕ) (s : List ℕ) → (b ≡ e → ⊥) → d ≡ digitIn b → 9 < d → moreDigits e k a (b ∷ s) ≡ badForm
   unfolding moreDigits
-  more-low zero a b s h l = rw (ne-eqb b e h)
-  more-low (suc k) a b s h l = rw (ne-eqb b e h) (digit-low b _ l)
-
-  pub more-high : (k a b : ℕ) (s : List ℕ) → (b ≡ e → ⊥) → 58 ≤ b → moreDigits e k a (b ∷ s) ≡ badForm
-  unfolding moreDigits
-  more-high zero a b s h l = rw (ne-eqb b e h)
-  more-high (suc k) a b s h l = rw (ne-eqb b e h) (digit-high b _ l)
+  more-none zero a b d s h q l = rw (ne-eqb b e h)
+  more-none (suc k) a b d s h q l = rw (ne-eqb b e h) (digit-none b d _ q l)
 
   pub more-next :
-      (k a b d : ℕ) (s : List ℕ) → (b ≡ e → ⊥) → (k ≡ 0 → ⊥) → 48 ≤ b → b < 58 → d ≡ b - 48
+      (k a b d : ℕ) (s : List ℕ) → (b ≡ e → ⊥) → (k ≡ 0 → ⊥) → d ≡ digitIn b → d ≤ 9
       → moreDigits e k a (b ∷ s) ≡ moreDigits e (k - 1) (a * 10 + d) s
   unfolding moreDigits
-  more-next zero a b d s h z l u q = absurd (z refl)
-  more-next (suc k) a b d s h z l u q =
-      rw (q, ne-eqb b e h) (digit-in b _ l u ∙ ap (λ (j : ℕ). moreDigits e j (a * 10 + (b - 48)) s) (omega arith))
+  more-next zero a b d s h z q l = absurd (z refl)
+  more-next (suc k) a b d s h z q l =
+      let w = digit-some b d (moreDigits e k (a * 10 + (b - 48)) s) q l in
+      let r : k ≡ suc k - 1 = omega arith in
+      rw (ne-eqb b e h) (w .0 ∙ rw (w .1, ← r))
 
 -- the value that digits make stays below `numeralEnd`
 pub value-small : (v l : ℕ) → (l ≡ 0 → ⊥) → (v + 1) * 10 ^ l ≤ numeralEnd → v < 10000
@@ -86,26 +93,25 @@ pub number-nil : (e : ℕ) (s : List ℕ) → s ≡ [] → number e s ≡ badFor
 unfolding number
 number-nil e s h = rw h
 
-pub number-low : (e b : ℕ) (s : List ℕ) → b < 48 → number e (b ∷ s) ≡ badForm
+pub number-none : (e b d : ℕ) (s : List ℕ) → d ≡ digitIn b → 9 < d → number e (b ∷ s) ≡ badForm
 unfolding number
-number-low e b s h = digit-low b _ h
+number-none e b d s q l = digit-none b d _ q l
 
-pub number-high : (e b : ℕ) (s : List ℕ) → 58 ≤ b → number e (b ∷ s) ≡ badForm
+pub number-digit : (e b d r : ℕ) (s : List ℕ) → d ≡ digitIn b → d ≤ 9 → r ≡ digitRoom d → number e (b ∷ s) ≡ moreDigits e r d s
 unfolding number
-number-high e b s h = digit-high b _ h
+number-digit e b d r s q l w =
+    let g = digit-some b d (moreDigits e (digitRoom (b - 48)) (b - 48) s) q l in
+    g .0 ∙ rw (g .1, w)
 
-pub number-zero : (e b : ℕ) (s : List ℕ) → b ≡ 48 → number e (b ∷ s) ≡ moreDigits e 0 0 s
-unfolding number
-number-zero e b s h = rw h
+-- after a digit that is not 0 there is room for four
+pub room-four : (d : ℕ) → (d ≡ 0 → ⊥) → 4 ≡ digitRoom d
+room-four zero h = absurd (h refl)
+room-four (suc d) h = refl
 
-pub number-digit : (e b d : ℕ) (s : List ℕ) → 48 ≤ b → b < 58 → (b ≡ 48 → ⊥) → d ≡ b - 48 → number e (b ∷ s) ≡ moreDigits e 4 d s
-unfolding number
-number-digit e b d s h l n q =
-    rw q (digit-in b _ h l ∙ ap (λ (k : ℕ). moreDigits e k (b - 48) s) (room-four (b - 48) (omega (arith, n))))
-  where
-    room-four : (d : ℕ) → 0 < d → digitRoom d ≡ 4
-    room-four zero h = absurd (omega arith)
-    room-four (suc d) h = refl
+-- the first digit leaves room for those that may follow it
+pub first-small : (d r : ℕ) → d ≤ 9 → r ≡ digitRoom d → (d + 1) * 10 ^ r ≤ numeralEnd
+first-small zero r h w = rw w (omega arith)
+first-small (suc d) r h w = rw w (omega arith)
 
 -- ---- a signed number at a place
 

@@ -1,16 +1,11 @@
--- Signed numbers as the code computes them. Assumes nothing.
-use Prim.Native.Nat.{ℕ, zero, suc, _+_, _-_, _<_}
-use mathlib.Core.Path.{_≡_, refl, sym, _∙_, ap}
-use mathlib.Core.Bool.{true, false}
+-- Signed numbers from their magnitude, as the code computes them. Assumes nothing.
+use Prim.Native.Nat.{ℕ, zero, suc, _-_, _<_}
+use mathlib.Core.Path.{_≡_, _∙_, ap}
 use native.Mathlib.Omega.{arith}
-use lib.IntN.{ℤ, pos, negsuc, natAbs, _-ℤ_, +ℤ-idl}
-use lib.Signed.{ltZ, nonNeg}
-use lib.Dec.{T, ltb}
-use borrow.Author.Tests.{ltb-true, ltb-false, lt-ltb, le-ltb}
+use lib.IntN.{ℤ, pos, negsuc, _-ℤ_, +ℤ-idl}
 use mir.Syntax.{w32}
 use mir.Val.{SFits, toZ, ofZ}
 use mir.ValLaws.{toZ-pos, toZ-ofZ}
-use Rattle.arith.proofs.Bools.{clash}
 use Rattle.record_text.specs.Numeral.{numeralEnd}
 
 -- a number that fits stands for itself
@@ -26,24 +21,3 @@ negative-is (suc v) h l = rw (positive-is (suc v) l) (+ℤ-idl (negsuc v) ∙ ap
 
 pub negative-fits : (v : ℕ) → 0 < v → v < numeralEnd → SFits w32 (pos 0 -ℤ toZ w32 v)
 negative-fits v h l = rw (negative-is v h l) (record { sfits = omega arith })
-
--- a number below 0, its sign changed
-pub opposite : (z : ℤ) → ltZ z (pos 0) ≡ true → pos 0 -ℤ z ≡ pos (natAbs z)
-opposite (pos n) e = absurd (omega (arith, ltb-true n 0 e))
-opposite (negsuc n) e = +ℤ-idl (pos (suc n))
-
-pub opposite-fits : (z : ℤ) → ltZ z (pos 0) ≡ true → natAbs z < numeralEnd → SFits w32 (pos 0 -ℤ z)
-opposite-fits z e h = rw (opposite z e) (record { sfits = omega arith })
-
-pub not-below : (z : ℤ) → ltZ z (pos 0) ≡ false → T (nonNeg z)
-not-below (pos n) e = tt
-not-below (negsuc n) e = clash e
-
--- whether the magnitude is below `numeralEnd`, by two comparisons
-pub within-low : (z : ℤ) → ltZ (negsuc 99999) z ≡ false → false ≡ ltb (natAbs z) numeralEnd
-within-low (pos n) e = clash e
-within-low (negsuc n) e = sym (le-ltb (suc n) numeralEnd (omega (arith, ltb-false n 99999 e)))
-
-pub within-high : (z : ℤ) → ltZ (negsuc 99999) z ≡ true → ltZ z (pos numeralEnd) ≡ ltb (natAbs z) numeralEnd
-within-high (pos n) e = refl
-within-high (negsuc n) e = sym (lt-ltb (suc n) numeralEnd (omega (arith, ltb-true n 99999 e)))

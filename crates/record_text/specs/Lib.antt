@@ -5,6 +5,5 @@ pub mod Field
 pub mod Line
 pub mod Codec
 pub mod Told
-pub mod Put
 pub mod Lines
 pub mod Examples

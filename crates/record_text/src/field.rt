@@ -3,7 +3,7 @@ ghost use mathlib.Core.Path.{_≡_};
 ghost use Prim.Native.Nat.{_+_, _*_, _^_, _≤_};
 ghost use lib.ListN.{drop};
 ghost use Rattle.record_text.specs.Numeral.{numeralEnd};
-ghost use Rattle.record_text.specs.Field.{moreDigits, number, signed};
+ghost use Rattle.record_text.specs.Field.{digitIn, moreDigits, digitRoom, number, signed};
 ghost use Rattle.record_text.specs.Told.{remaining, numberTold, signedTold};
 use crate::cursor::Cursor;
 use crate::sign::negative;
@@ -21,11 +21,17 @@ pub enum SignedRead {
     Bad,
 }
 
-// A byte as a number.
-fn wide(b: u8) -> u32
-    ensures { λ r. ⌜ r ≡ b ⌝ }
+// The value of a digit, 10 for a byte that is none.
+fn digit(b: u8) -> u32
+    ensures { λ r. ⌜ r ≡ digitIn b ⌝ }
 {
-    b as u32
+    if b < 48 {
+        return 10;
+    }
+    if 58 <= b {
+        return 10;
+    }
+    (b - 48) as u32
 }
 
 // At most `most` digits more after those of `first`, and the byte `end`.
@@ -44,17 +50,22 @@ fn read_digits(bytes: &[u8], at: usize, end: u8, most: u32, first: u32) -> Numbe
         if left == 0 {
             return NumberRead::Bad;
         }
-        if b < 48 {
+        let d = digit(b);
+        if 9 < d {
             return NumberRead::Bad;
         }
-        if 58 <= b {
-            return NumberRead::Bad;
-        }
-        value = value * 10 + wide(b - 48);
+        value = value * 10 + d;
         left -= 1;
         p += 1;
     }
     NumberRead::Bad // the bytes end before the field does
+}
+
+// How many digits may follow the first digit d.
+fn digit_room(d: u32) -> u32
+    ensures { λ r. ⌜ r ≡ digitRoom d ⌝ }
+{
+    if d == 0 { 0 } else { 4 }
 }
 
 // A numeral of one to five digits without leading zeros, and the byte `end` after it.
@@ -65,17 +76,11 @@ pub fn read_number(bytes: &[u8], from: Cursor, end: u8) -> NumberRead
     if bytes.len() <= at {
         return NumberRead::Bad;
     }
-    let b = bytes[at];
-    if b < 48 {
+    let d = digit(bytes[at]);
+    if 9 < d {
         return NumberRead::Bad;
     }
-    if 58 <= b {
-        return NumberRead::Bad;
-    }
-    if b == 48 {
-        return read_digits(bytes, at + 1, end, 0, 0);
-    }
-    read_digits(bytes, at + 1, end, 4, wide(b - 48))
+    read_digits(bytes, at + 1, end, digit_room(d), d)
 }
 
 // A numeral, or a minus and a nonzero numeral, and the byte `end` after it.

@@ -1,10 +1,7 @@
-// The text of the record file (document 01: house file): numerals, fields and lines, read and written.
+// The text of the record file (document 01: house file): numerals, fields and lines, and reading them.
 mod cursor;
-mod digits;
 mod field;
 mod line;
-mod put;
-mod put_line;
 mod sign;
 
 pub use cursor::Cursor;
@@ -24,12 +21,3 @@ pub use line::read_size_line;
 pub use line::read_size_title;
 pub use line::read_text;
 pub use line::read_value_line;
-pub use put::put_depth_title;
-pub use put::put_number;
-pub use put::put_record_title;
-pub use put::put_signed;
-pub use put::put_size_title;
-pub use put::put_text;
-pub use put::put_value_line;
-pub use put_line::put_record_line;
-pub use put_line::put_size_line;

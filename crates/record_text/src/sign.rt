@@ -1,7 +1,7 @@
-// Signed numbers from their magnitude, and back.
+// Signed numbers from their magnitude.
 ghost use mathlib.Core.Path.{_≡_};
 ghost use Prim.Native.Nat.{_-_, _<_};
-ghost use lib.IntN.{pos, negsuc, natAbs};
+ghost use lib.IntN.{pos, negsuc};
 ghost use Rattle.record_text.specs.Numeral.{numeralEnd};
 
 // v as a signed number.
@@ -19,17 +19,4 @@ pub(crate) fn negative(v: u32) -> i32
 {
     let z = v as i32;
     0 - z
-}
-
-// How far z is from 0.
-pub(crate) fn magnitude(z: i32) -> u32
-    requires { ⌜ natAbs z < numeralEnd ⌝ }
-    ensures { λ r. ⌜ r ≡ natAbs z ⌝ }
-{
-    if z < 0 {
-        let y = 0 - z;
-        y as u32
-    } else {
-        z as u32
-    }
 }

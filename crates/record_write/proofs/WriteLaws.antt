@@ -18,11 +18,11 @@ use Rattle.sheet.specs.declared.Sheet.{Sheet}
 use Rattle.record_text.specs.Numeral.{numeralEnd}
 use Rattle.record_text.specs.Line.{sizeTitle, depthTitle, recordTitle, sizeText, valueText, recordText}
 use Rattle.record_text.specs.Lines.{texts}
-use Rattle.record_text.specs.Put.{Put, Written, printedIf, numberPrintable, sizePrintable, recordPrintable}
 use Rattle.record_text.proofs.LengthLaws.{head-length, value-line-length, record-line-length}
 use Rattle.record_text.proofs.LinesLaws.{texts-length}
-use Rattle.record_text.proofs.PutLaws.{put-written, printed-written, size-printed, record-printed}
-use Rattle.record_text.proofs.WriteSteps.{written-length, written-then, written-as}
+use Rattle.record_print.specs.Put.{Put, Written, printedIf, numberPrintable, sizePrintable, recordPrintable}
+use Rattle.record_print.proofs.PutLaws.{put-written, printed-written, size-printed, record-printed}
+use Rattle.record_print.proofs.WriteSteps.{written-length, written-then, written-as}
 use Rattle.record_file.specs.Writing.{Source, Small, HeadFits, spaceFor, writeRefusal, writtenText, writeAnswer, writeAfter}
 use Rattle.record_file.specs.Text.{sizeFieldsOf, headText, fileText}
 use Rattle.record_file.proofs.MeaningLaws.{small-printable}

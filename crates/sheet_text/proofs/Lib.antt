@@ -1,5 +1,4 @@
 -- Laws of what `show` prints.
-pub mod PrintLaws
 pub mod SampleLaws
 pub mod AidLaws
 pub mod ShowLaws

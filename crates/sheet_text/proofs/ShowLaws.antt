@@ -15,14 +15,14 @@ use Rattle.sheet.specs.Compose.{recordsLent}
 use Rattle.sheet.proofs.InTurnLaws.{length-in-turn}
 use Rattle.record_text.specs.Numeral.{numeralEnd}
 use Rattle.record_text.specs.Lines.{Lined, refusedAt, read}
-use Rattle.record_text.specs.Put.{Written}
-use Rattle.record_text.proofs.PutLaws.{written-whole}
+use Rattle.record_print.specs.Put.{Written}
+use Rattle.record_print.proofs.PutLaws.{written-whole}
+use Rattle.sheet_print.specs.Printed.{sheetText}
+use Rattle.sheet_print.proofs.PrintLaws.{sheet-same}
 use Rattle.record_read.specs.declared.reading.FileBack.{FileBack}
 use Rattle.record_file.specs.Reading.{File, Aids, readFile}
 use Rattle.record_read.specs.Back.{emptySheet, materialIn, recordIn, samplesBack, fileBack, leaving}
-use Rattle.sheet_text.specs.Printed.{sheetText}
 use Rattle.sheet_text.specs.Showing.{sizeIn, aidsFor, samplesIn, textBy, readWith, shownText, showSpace, showRefusal, showAnswer, showAfter}
-use Rattle.sheet_text.proofs.PrintLaws.{sheet-same}
 use Rattle.record_file.proofs.LineBounds.{Below, lineEnd, read-below}
 use Rattle.sheet_text.proofs.SampleLaws.{file-fits, text-short}
 

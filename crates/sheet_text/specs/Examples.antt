@@ -27,7 +27,7 @@ use Rattle.record_text.specs.Lines.{manyLines, texts}
 use Rattle.record_file.specs.Text.{fileText}
 use Rattle.record_file.specs.Reading.{sizeMeaning, valueMeaning, fileLines, readLengthsOk, readFile}
 use Rattle.record_file.specs.Examples.{sampleFile, sampleRecord}
-use Rattle.sheet_text.specs.Printed.{sidesTitle, refusalTitle, rowsText, sidesText, sheetText, refusalText}
+use Rattle.sheet_print.specs.Printed.{sidesTitle, rowsText, sidesText, sheetText, refusalText}
 use Rattle.sheet_text.specs.Showing.{sizeIn, aidsFor, shownText, showAnswer}
 
 -- what document 01 says `show` prints of its file
@@ -44,11 +44,6 @@ sampleShown =
 sample-shown : shownText sampleFile ≡ sampleShown
 unfolding shownText sizeIn aidsFor sidesTitle rowsText sidesText sheetText readFile readLengthsOk fileLines sizeMeaning valueMeaning recordRefusal offsetOk exactly sizeTitle depthTitle recordTitle sizeLine valueLine recordLine manyLines texts number signed moreDigits numberText numeral digitsOf furtherDigits bits clamped listOf nearestTo indexOf candidate wedgelet holds keep ends starts wedgeletList vertEdge horEdge ltBy brBy lt br sideDepth levelOf sampleOf predicted leftSource topSource neighboursAt written placedSamples placedInTurn
 sample-shown = refl
-
--- a refusal: `refusal line`, then `9 1`
-refusal-example : refusalText 9 1 ≡ 114 ∷ 101 ∷ 102 ∷ 117 ∷ 115 ∷ 97 ∷ 108 ∷ 32 ∷ 108 ∷ 105 ∷ 110 ∷ 101 ∷ 10 ∷ 57 ∷ 32 ∷ 49 ∷ 10 ∷ []
-unfolding refusalText refusalTitle numberText numeral digitsOf furtherDigits
-refusal-example = refl
 
 -- no input, a last line without its end, a byte past the last record
 empty-shown : shownText [] ≡ refusalText 9 1

@@ -1,5 +1,4 @@
 -- Document 01, "House file": what `show` prints.
-pub mod Printed
 pub mod Showing
 pub mod Told
 pub mod Examples

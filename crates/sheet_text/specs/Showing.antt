@@ -17,7 +17,7 @@ use Rattle.record_text.specs.Lines.{Lined, refusedAt, read}
 use Rattle.record_file.specs.Reading.{File, Aids, aidsOf, readFile}
 use Rattle.record_file.specs.Writing.{spaceFor}
 use Rattle.record_read.specs.Back.{emptySheet, materialIn, recordIn}
-use Rattle.sheet_text.specs.Printed.{sheetText, refusalText}
+use Rattle.sheet_print.specs.Printed.{sheetText, refusalText}
 
 -- n of a size line, 0 where there is none
 abbrev pub sizeBy : Parsed SizeFields → ℕ

@@ -3,17 +3,19 @@ ghost use mathlib.Core.Path.{_≡_};
 ghost use Prim.Native.Nat.{_≤_};
 ghost use mathlib.Core.List.{[]};
 ghost use lib.ListN.{length};
-ghost use Rattle.record_text.specs.Put.{Written};
+ghost use Rattle.record_print.specs.Put.{Written};
 ghost use Rattle.record_file.specs.Reading.{aidsOf};
+ghost use Rattle.record_read.specs.Back.{samplesBack, fileBack, leaving};
 ghost use Rattle.sheet_text.specs.Showing.{sizeIn, Listing, textBy, readWith, showSpace, showAnswer, showAfter};
 ghost use Rattle.sheet_text.specs.Told.{shownTold};
-use crate::printing::put_refusal;
-use crate::printing::put_sheet;
+use record_read::FileBack;
 use record_text::Cursor;
 use record_text::SizeRead;
 use record_text::TextRead;
 use record_text::read_size_line;
 use record_text::read_size_title;
+use sheet_print::put_refusal;
+use sheet_print::put_sheet;
 use wedgelet::Listed;
 
 // What `show_text` answers: the length of the text, or the number of its refusal.
@@ -49,27 +51,36 @@ fn build_list(n: usize, list: &mut [u64]) -> usize
     }
 }
 
+// Reads a file with a list and its count, and no texture, into the lent samples; what reading answers.
+fn read_samples(bytes: &[u8], list: &[u64], count: usize, samples: &mut [u8]) -> FileBack
+    requires { ⌜ length (now samples) ≡ 16384 ⌝ }
+    ensures answered { λ r. ⌜ r ≡ fileBack (readWith (aidsOf (now (list .entry)) count []) (now (bytes .entry))) ⌝ }
+    ensures drawn { λ r. ⌜ now (samples .exit) ≡ leaving (readWith (aidsOf (now (list .entry)) count []) (now (bytes .entry))) (λ F. samplesBack (aidsOf (now (list .entry)) count []) F (now (samples .entry))) (now (samples .entry)) ⌝ }
+{
+    let mut kinds = [0u32; 1024];
+    let mut entries = [0u32; 1024];
+    let mut offs0 = [0i32; 1024];
+    let mut offs1 = [0i32; 1024];
+    record_read::read(
+        bytes,
+        list,
+        count,
+        b"",
+        samples,
+        &mut kinds,
+        &mut entries,
+        &mut offs0,
+        &mut offs1,
+    )
+}
+
 // The text of what reading with a list and its count finds, from the start of `out`; its length.
 fn put_read(bytes: &[u8], list: &[u64], count: usize, out: &mut [u8]) -> usize
     requires { ⌜ showSpace ≤ length (now out) ⌝ }
     ensures { λ r. ⌜ Written (now (out .entry)) (now (out .exit)) 0 (textBy (aidsOf (now (list .entry)) count []) (readWith (aidsOf (now (list .entry)) count []) (now (bytes .entry)))) r ⌝ }
 {
     let mut samples = [0u8; 16384];
-    let mut kinds = [0u32; 1024];
-    let mut entries = [0u32; 1024];
-    let mut offs0 = [0i32; 1024];
-    let mut offs1 = [0i32; 1024];
-    let back = record_read::read(
-        bytes,
-        list,
-        count,
-        b"",
-        &mut samples,
-        &mut kinds,
-        &mut entries,
-        &mut offs0,
-        &mut offs1,
-    );
+    let back = read_samples(bytes, list, count, &mut samples);
     if back.refusal != 0 {
         return put_refusal(out, back.refusal, back.line);
     }

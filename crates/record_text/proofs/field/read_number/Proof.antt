@@ -1,12 +1,11 @@
--- `read_number` meets its contract: the first byte decides how many digits may follow. Assumes nothing.
+-- `read_number` meets its contract: the first digit decides how many may follow. Assumes nothing.
 use Prim.Native.Nat.{_+_}
 use mathlib.Core.Path.{_≡_, sym, _∙_, ap}
 use mathlib.Core.List.{_∷_}
-use native.Mathlib.Omega.{arith}
 use borrow.Author.Needs.{needs}
 use lib.ListN.{drop, getD}
 use Rattle.record_text.specs.Field.{number}
-use Rattle.record_text.proofs.ReadSteps.{at-place, past, number-nil, number-low, number-high, number-zero, number-digit}
+use Rattle.record_text.proofs.ReadSteps.{at-place, past, number-nil, number-none, number-digit, first-small}
 use Rattle.record_text.proofs.field.read_number.Statement.{statement}
 use Rattle.record_text.proofs.field.read_number.Tie as tie
 
@@ -20,50 +19,40 @@ here :
     number (a .end) (drop (a .from .at) (a .bytes .now)) ≡ number (a .end) (getD (a .bytes .now) (a .from .at) 0 ∷ drop (a .from .at + 1) (a .bytes .now))
 here c = ap (number _) (at-place _ _ (c .before .if1 .left))
 
-shared-slice-read-b : tie.Need-shared-slice-read-b
-shared-slice-read-b c = search needs
+shared-slice-read-digit : tie.Need-shared-slice-read-digit
+shared-slice-read-digit c = search needs
+
+digit-requires : tie.Need-digit-requires
+digit-requires c κs = tt
 
 returns-2 : tie.Need-returns-2
-returns-2 c = sym (here (c .before) ∙ number-low _ _ _ (c .if2 .taken))
-
-returns-3 : tie.Need-returns-3
-returns-3 c = sym (here (c .before .before) ∙ number-high _ _ _ (c .if3 .taken))
+returns-2 c = sym (here (c .before .before) ∙ number-none _ _ _ _ (c .before .digit .ensures) (c .if2 .taken))
 
 add-read-digits : tie.Need-add-read-digits
 add-read-digits c = search needs
 
+digit-room-requires : tie.Need-digit-room-requires
+digit-room-requires c κs = tt
+
 read-digits-requires : tie.Need-read-digits-requires
-read-digits-requires c κs = search needs
+read-digits-requires c κs = first-small _ _ (c .before .if2 .left) (c .digit-room .ensures)
 
-returns-4 : tie.Need-returns-4
-returns-4 c = c .read-digits .ensures ∙ sym (here (c .before .before .before .before) ∙ number-zero _ _ _ (c .before .if4 .taken))
-
-add-read-digits-2 : tie.Need-add-read-digits-2
-add-read-digits-2 c = search needs
-
-wide-requires : tie.Need-wide-requires
-wide-requires c κs = tt
-
-read-digits-requires-2 : tie.Need-read-digits-requires-2
-read-digits-requires-2 c κs = omega (arith, c .wide .ensures)
-
-returns-5 : tie.Need-returns-5
-returns-5 c =
-    c .read-digits2 .ensures
-    ∙ sym (here (c .before .before .before .before .before) ∙ number-digit _ _ _ _ (c .before .before .before .before .if2 .left) (c .before .before .before .if3 .left) (c .before .before .if4 .left) (c .before .wide .ensures))
+returns-3 : tie.Need-returns-3
+returns-3 c =
+    let r = c .before in
+    let d = r .before .before in
+    c .read-digits .ensures
+    ∙ sym (here (d .before) ∙ number-digit _ _ _ _ _ (d .digit .ensures) (r .before .if2 .left) (r .digit-room .ensures))
 
 pub read-number-spec : {M : Type 1} → statement M
 read-number-spec =
     tie.close
     (tie.spec
     returns
-    shared-slice-read-b
+    shared-slice-read-digit
+    digit-requires
     returns-2
-    returns-3
     add-read-digits
+    digit-room-requires
     read-digits-requires
-    returns-4
-    add-read-digits-2
-    wide-requires
-    read-digits-requires-2
-    returns-5)
+    returns-3)

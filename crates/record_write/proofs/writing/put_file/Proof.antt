@@ -4,8 +4,8 @@ use Prim.Native.Nat.{ℕ, _<_}
 use native.Mathlib.Omega.{arith}
 use lib.ListN.{length, getD}
 use Rattle.record_text.specs.Line.{recordTitle}
-use Rattle.record_text.specs.Put.{Written}
-use Rattle.record_text.proofs.PutLaws.{put-written}
+use Rattle.record_print.specs.Put.{Written}
+use Rattle.record_print.proofs.PutLaws.{put-written}
 use Rattle.record_file.specs.Text.{headText, recordsAt}
 use Rattle.record_write.proofs.WriteLaws.{room-values, room-title, room-records, file-written}
 use Rattle.record_write.proofs.writing.put_file.Statement.{statement}

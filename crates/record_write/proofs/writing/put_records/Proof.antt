@@ -7,9 +7,9 @@ use lib.ListN.{length}
 use Rattle.record_text.specs.declared.cursor.RecordFields.{RecordFields}
 use Rattle.record_text.specs.Line.{recordText}
 use Rattle.record_text.specs.Lines.{texts}
-use Rattle.record_text.specs.Put.{Put, Written, printedIf, recordPrintable}
-use Rattle.record_text.proofs.LoopLaws.{writing-start, line-more}
-use Rattle.record_text.proofs.WriteSteps.{written-length}
+use Rattle.record_print.specs.Put.{Put, Written, printedIf, recordPrintable}
+use Rattle.record_print.proofs.LoopLaws.{writing-start, line-more}
+use Rattle.record_print.proofs.WriteSteps.{written-length}
 use Rattle.record_file.specs.Text.{recordAt, recordsAt}
 use Rattle.record_write.proofs.WriteLaws.{record-is-printed, record-short}
 use Rattle.record_write.proofs.writing.put_records.Statement.{statement}

@@ -7,9 +7,9 @@ use lib.ListN.{length, getD}
 use Rattle.arith.specs.Lists.{listOf}
 use Rattle.record_text.specs.Line.{valueText}
 use Rattle.record_text.specs.Lines.{texts}
-use Rattle.record_text.specs.Put.{Put, Written, printedIf, numberPrintable}
-use Rattle.record_text.proofs.LoopLaws.{writing-start, line-more}
-use Rattle.record_text.proofs.WriteSteps.{written-length}
+use Rattle.record_print.specs.Put.{Put, Written, printedIf, numberPrintable}
+use Rattle.record_print.proofs.LoopLaws.{writing-start, line-more}
+use Rattle.record_print.proofs.WriteSteps.{written-length}
 use Rattle.record_write.proofs.WriteLaws.{value-printed, values-short, values-all}
 use Rattle.record_write.proofs.writing.put_values.Statement.{statement}
 use Rattle.record_write.proofs.writing.put_values.Tie as tie

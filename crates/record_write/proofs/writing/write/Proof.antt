@@ -4,7 +4,7 @@ use Prim.Native.Nat.{ℕ}
 use mathlib.Core.Path.{_≡_, sym, _∙_, ap, subst}
 use lib.ListN.{length}
 use Rattle.sheet.specs.Compose.{recordsLent}
-use Rattle.record_text.specs.Put.{Written}
+use Rattle.record_print.specs.Put.{Written}
 use Rattle.record_file.specs.Text.{fileText, recordAt, recordsAt}
 use Rattle.record_file.specs.Writing.{Source, sourceOf, firstTo, writeLengthsOk, writtenRefusal, writeRefusal}
 use Rattle.record_file.proofs.RefusalLaws.{firstRefusal, lengthsOf, first-lengths, write-first, write-next, LengthsRight, accepted-parts, accepted-head, accepted-small}

@@ -1,7 +1,7 @@
 -- `show_text` meets its contract: the space, the size, the list, and the text.
 use borrow.Author.Needs.{needs}
 use native.Mathlib.Omega.{arith}
-use Rattle.record_text.proofs.WriteSteps.{written-as}
+use Rattle.record_print.proofs.WriteSteps.{written-as}
 use Rattle.sheet_text.proofs.ShowLaws.{show-short, show-given, shown-as}
 use Rattle.sheet_text.proofs.showing.show_text.Statement.{statement}
 use Rattle.sheet_text.proofs.showing.show_text.Tie as tie

@@ -1,0 +1,93 @@
+-- `put_text` meets its contract. The loop's invariant: what is left of the text, written to the bytes as they are, gives what the whole
+-- gives. Assumes nothing.
+use Prim.Native.Nat.{ℕ, _+_, _-_, _≤_, _<_}
+use mathlib.Core.Path.{_≡_, sym, _∙_, ap, refl}
+use native.Mathlib.Nat.{add-zero}
+use native.Mathlib.Omega.{arith}
+use borrow.Author.Needs.{needs}
+use lib.ListN.{length, drop, length-set}
+use lib.Seq.{sets}
+use Rattle.record_text.proofs.ReadSteps.{past}
+use Rattle.record_print.proofs.PutLaws.{put-no-room, put-room, copy-step}
+use Rattle.record_print.proofs.put.put_text.Statement.{statement}
+use Rattle.record_print.proofs.put.put_text.Tie as tie
+
+abbrev Inv-loop : tie.InvT-loop
+Inv-loop out₀ text at i₀ i-end out i =
+    (sets out (at + i) (drop i text) ≡ sets out₀ at text) × (length out ≡ length out₀) × (i-end ≡ length text) × (i ≤ length text) × (at + length text ≤ length out₀)
+
+abbrev μ-loop : tie.MeasureT-loop
+μ-loop out₀ text at i₀ i-end out i = length text - i
+
+returns : tie.Need-returns Inv-loop μ-loop
+returns c = put-no-room _ _ _ (let a = c .before .args in let h : length (a .out .now) < a .from .at + length (a .text .now) = omega arith in h)
+
+sub-if2 : tie.Need-sub-if2 Inv-loop μ-loop
+sub-if2 c = search needs
+
+returns-2 : tie.Need-returns-2 Inv-loop μ-loop
+returns-2 c = put-no-room _ _ _ (let a = c .before .before .args in let h : length (a .out .now) < a .from .at + length (a .text .now) = omega arith in h)
+
+loop-holds : tie.Need-loop-holds Inv-loop μ-loop
+loop-holds c =
+    let a = c .before .before .args in
+    (ap (λ (k : ℕ). sets (a .out .now) k (a .text .now)) (add-zero (a .from .at)), refl, refl, omega arith, omega arith)
+
+shared-slice-read-out : tie.Need-shared-slice-read-out Inv-loop μ-loop
+shared-slice-read-out c = search needs
+
+add-out : tie.Need-add-out Inv-loop μ-loop
+add-out c = search needs
+
+slice-write-out : tie.Need-slice-write-out Inv-loop μ-loop
+slice-write-out c = search needs
+
+add-i : tie.Need-add-i Inv-loop μ-loop
+add-i c = search needs
+
+loop-less : tie.Need-loop-less Inv-loop μ-loop
+loop-less c = search needs
+
+loop-again : tie.Need-loop-again Inv-loop μ-loop
+loop-again c =
+    let a = c .before .before .before .before .before .args in
+    let l = c .before .before .loop in (
+      copy-step (l .out) (a .text .now) (a .from .at) (l .i) _ (omega arith) refl ∙ l .inv .0,
+      length-set (l .out) (a .from .at + l .i) _ ∙ l .inv .1,
+      refl,
+      omega arith,
+      l .inv .4,
+    )
+
+add-t8 : tie.Need-add-t8 Inv-loop μ-loop
+add-t8 c = search needs
+
+same-length : tie.Need-same-length Inv-loop μ-loop
+same-length c = search needs
+
+returns-3 : tie.Need-returns-3 Inv-loop μ-loop
+returns-3 c =
+    let a = c .before .before .before .before .args in
+    let l = c .before .loop in
+    put-room _ _ _ _ _ (l .inv .4)
+    (record { lent = ap (sets (l .out) (a .from .at + l .i)) (sym (past (a .text .now) (l .i) (omega arith))) ∙ l .inv .0; place = refl })
+
+pub put-text-spec : {M : Type 1} → statement M
+put-text-spec =
+    tie.close
+    (tie.spec
+    Inv-loop
+    μ-loop
+    returns
+    sub-if2
+    returns-2
+    loop-holds
+    shared-slice-read-out
+    add-out
+    slice-write-out
+    add-i
+    loop-less
+    loop-again
+    add-t8
+    same-length
+    returns-3)
