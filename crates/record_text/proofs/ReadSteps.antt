@@ -25,7 +25,7 @@ past s p h = drop-of-length-le s h
 -- ---- is a byte a digit?
 
 module _ {A : Type 0} (b d : ℕ) (x : Parsed A) (e : d ≡ digitIn b) where
-  -- one that is none, and one that is
+  -- a byte that is none
   digit-none : 9 < d → ifDigit b x ≡ badForm
   digit-none h = go (ltb b 48) (ltb b 58) refl e
     where
@@ -34,6 +34,7 @@ module _ {A : Type 0} (b d : ℕ) (x : Parsed A) (e : d ≡ digitIn b) where
       go false true q e = absurd (omega (arith, ltb-true b 58 q))
       go false false q e = refl
 
+  -- and one that is
   digit-some : d ≤ 9 → (ifDigit b x ≡ x) × (b - 48 ≡ d)
   digit-some h = go (ltb b 48) (ltb b 58) e
     where

@@ -7,13 +7,13 @@ use lib.IntN.{ℤ, pos, negsuc}
 use Rattle.record_text.specs.Numeral.{numeral, signedNumeral}
 use Rattle.record_text.specs.Parsed.{Parsed, Parser, badForm, found, andThen}
 
--- the value of the digit b, 10 for a byte that is none
-abbrev pub digitIn : ℕ → ℕ
-digitIn b = cond (ltb b 48) 10 (cond (ltb b 58) (b - 48) 10)
-
 -- what follows, where the byte b is a digit
 abbrev pub ifDigit : {A : Type 0} → ℕ → Parsed A → Parsed A
 ifDigit b x = cond (ltb b 48) badForm (cond (ltb b 58) x badForm)
+
+-- the value of the digit b, 10 for a byte that is none
+abbrev pub digitIn : ℕ → ℕ
+digitIn b = cond (ltb b 48) 10 (cond (ltb b 58) (b - 48) 10)
 
 -- at most k digits more after those of a, and then the byte e
 unfoldable pub moreDigits : ℕ → ℕ → ℕ → Parser ℕ

@@ -7,8 +7,8 @@ use lib.ListN.{length}
 use Rattle.record_print.specs.Put.{printedIf, numberPrintable}
 use Rattle.sheet_print.specs.Printed.{sheetText, refusalText}
 
--- whether a sheet can be printed: its sides are at most 128, its samples are lent, and there is room for 27 bytes before the rows and for 4 of each
--- sample
+-- whether a sheet can be printed: its sides are at most 128, its samples are lent, and there is room for the longest text it can have, 27
+-- bytes before the rows and 4 for each sample
 abbrev pub sheetPrintable : ℕ → ℕ → ℕ → ℕ → Bool
 sheetPrintable width height lent room =
     leb width 128 && (leb height 128 && (leb (width * height) lent && leb (27 + 4 * (width * height)) room))
