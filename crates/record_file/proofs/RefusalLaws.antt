@@ -18,7 +18,7 @@ use Rattle.depth_table.proofs.TableLaws.{table-counts}
 use Rattle.pattern.specs.Size.{sizeOk}
 use Rattle.pattern.specs.Answer.{countOk}
 use Rattle.pattern.proofs.SizeLaws.{size-bounds}
-use Rattle.sheet.specs.Grid.{sideOk}
+use Rattle.sheet_blocks.specs.Grid.{sideOk}
 use Rattle.sheet.proofs.RefusalLaws.{unless-kept}
 use Rattle.sheet.proofs.StateLaws.{side-bounds}
 use Rattle.sheet.specs.declared.Sheet.{Sheet}

@@ -15,7 +15,7 @@ use Rattle.arith.proofs.CheckLaws.{passed}
 use Rattle.pattern.specs.Size.{sizeOk}
 use Rattle.choice.specs.Record.{Record}
 use Rattle.sheet.specs.declared.Sheet.{Sheet}
-use Rattle.sheet.specs.Grid.{sideOk}
+use Rattle.sheet_blocks.specs.Grid.{sideOk}
 use Rattle.sheet.specs.State.{stateOf, after, sidesOk, lengthsOk, Lengths, Open}
 use Rattle.sheet.specs.Place.{Material, materialOf, placeRefusal, placedInTurn}
 use Rattle.sheet.specs.Compose.{recordsLent}

@@ -16,7 +16,7 @@ use Rattle.pattern.specs.Size.{sizeOk}
 use Rattle.pattern.proofs.SizeLaws.{size-bounds}
 use Rattle.choice.specs.Record.{Record}
 use Rattle.sheet.specs.declared.Sheet.{Sheet}
-use Rattle.sheet.specs.Grid.{sideOk}
+use Rattle.sheet_blocks.specs.Grid.{sideOk}
 use Rattle.sheet.specs.State.{stateOf, area, blocksOf, sidesOk, Open}
 use Rattle.sheet.specs.Place.{placedInTurn}
 use Rattle.sheet.proofs.StateLaws.{side-bounds}

@@ -11,13 +11,13 @@ use Rattle.arith.proofs.CheckLaws.{answer-refused, answer-given, lent-refused, 
 use Rattle.prediction.specs.Block.{predicted}
 use Rattle.prediction.specs.Offset.{offsetOk}
 use Rattle.choice.specs.Record.{Record, patternBy}
-use Rattle.sheet.specs.Neighbours.{neighbours}
-use Rattle.sheet.specs.Samples.{written}
+use Rattle.sheet_blocks.specs.Neighbours.{neighbours}
+use Rattle.sheet_blocks.specs.Samples.{written}
 use Rattle.sheet.specs.State.{after, nextX, nextY, lengthsOk, openRefusal}
 use Rattle.sheet.specs.Meaning.{kindRefusal, offsetRefusal, recordRefusal}
 use Rattle.sheet.specs.Place.{Material, textured, nextCase, nextWord, placedSamples, Predictable, placeRefusal, placeAnswer, placeAfter}
 use Rattle.sheet.specs.declared.Sheet.{Sheet}
-use Rattle.sheet.proofs.SampleLaws.{length-written}
+use Rattle.sheet_blocks.proofs.SampleLaws.{length-written}
 use Rattle.sheet.proofs.StateLaws.{open-kept, open-passed, opened}
 use Rattle.sheet.proofs.MeaningLaws.{kind-kept, kind-passed, word-fits}
 

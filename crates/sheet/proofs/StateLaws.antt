@@ -1,5 +1,5 @@
 -- What holds of a state that has a block to place, and of one that the checks pass. Assumes nothing.
-use Prim.Native.Nat.{ℕ, _*_, _/_, _%_, _≤_, _<_}
+use Prim.Native.Nat.{ℕ, _*_, _/_, _%_, _≤_}
 use mathlib.Core.Bool.{Bool, true, false, _||_}
 use mathlib.Core.List.{List}
 use mathlib.Core.Logic.{_⊎_, inl, inr, ⊎-elim}
@@ -13,10 +13,10 @@ use Rattle.arith.proofs.CheckLaws.{passed}
 use Rattle.depth_table.specs.Table.{tableOk}
 use Rattle.pattern.specs.Size.{sizeOk}
 use Rattle.pattern.proofs.SizeLaws.{size-bounds}
-use Rattle.sheet.specs.Grid.{longest, sideOk, Inside}
-use Rattle.sheet.specs.State.{area, blocksOf, nextX, nextY, sidesOk, lengthsOk, stateRefusal, openRefusal, Open, Lengths}
+use Rattle.sheet_blocks.specs.Grid.{longest, sideOk, liesIn}
+use Rattle.sheet.specs.State.{area, blocksOf, sidesOk, lengthsOk, stateRefusal, openRefusal, Open, Lengths}
 use Rattle.sheet.specs.declared.Sheet.{Sheet}
-use Rattle.sheet.proofs.GridLaws.{per-pos, block-inside, rows-few}
+use Rattle.sheet_blocks.proofs.GridLaws.{block-lies}
 use Rattle.sheet.proofs.RefusalLaws.{unless-kept}
 
 -- an allowed side is n to 128
@@ -33,29 +33,13 @@ multiple n side h =
     let b = both-of (leb side longest) (eqb (side % n) 0) (a .1) in
     omega (arith, div-add-mod' side n, eqb-true (side % n) 0 (b .1))
 
--- a row has a block
-pub open-across : (S : Sheet) → Open S → 0 < S .width / S .n
-open-across S o = per-pos (S .n) (S .width) (omega (arith, o .low)) (o .wide)
-
 -- a sheet has at most 128 * 128 samples
 pub area-few : (S : Sheet) → Open S → area S ≤ 16384
 area-few S o = mul-le-mul {n₁ = S .width} {m₁ = S .height} {n₂ = 128} {m₂ = 128} (o .narrow) (o .short)
 
--- the next block lies inside the sheet
-pub next-inside :
-    (S : Sheet) {samples x y : ℕ} → Open S → samples ≡ area S → x ≡ nextX S → y ≡ nextY S → Inside (S .n) (S .width) samples x y
-next-inside S o e p q =
-    rw (e, p, q) (block-inside (S .n) (S .width) (S .height) (S .placed) (omega (arith, o .low)) (o .wide) (o .missing))
-
-pub next-column : (S : Sheet) → Open S → nextX S ≤ 128
-next-column S o =
-    let p = block-inside (S .n) (S .width) (S .height) (S .placed) (omega (arith, o .low)) (o .wide) (o .missing) in
-    omega (arith, p .across, o .narrow)
-
-pub next-row : (S : Sheet) → Open S → nextY S ≤ 16384
-next-row S o =
-    let p = block-inside (S .n) (S .width) (S .height) (S .placed) (omega (arith, o .low)) (o .wide) (o .missing) in
-    omega (arith, rows-few p, area-few S o)
+-- the next block lies inside the samples
+pub next-lies : (S : Sheet) {samples : ℕ} → Open S → samples ≡ area S → liesIn (S .n) (S .width) (S .placed) samples ≡ true
+next-lies S o e = block-lies (S .n) (S .width) (S .height) (S .placed) (o .size) (o .wide) (o .narrow) (o .missing) e
 
 -- ---- the checks of a state
 

@@ -12,7 +12,7 @@ use Rattle.depth_table.specs.Table.{tableOk}
 use Rattle.choice.specs.Record.{Case, Record}
 use Rattle.choice.specs.Search.{chosen}
 use Rattle.choice.specs.Answer.{wordsOk}
-use Rattle.sheet.specs.Samples.{cut}
+use Rattle.sheet_blocks.specs.Samples.{cut}
 use Rattle.sheet.specs.State.{after, area, blocksOf, finished, nextX, nextY, lengthsOk, openRefusal, Open, Lengths}
 use Rattle.sheet.specs.Place.{Material, textured, nextCase, placedSamples}
 use Rattle.sheet.specs.declared.Sheet.{Sheet}

@@ -1,7 +1,4 @@
 -- Document 01, "Sheet".
-pub mod Grid
-pub mod Neighbours
-pub mod Samples
 pub mod State
 pub mod Meaning
 pub mod Place

@@ -11,8 +11,8 @@ use Rattle.depth_table.specs.Table.{tableOk}
 use Rattle.pattern.specs.Size.{wordOk}
 use Rattle.prediction.specs.Offset.{offsetOk}
 use Rattle.choice.specs.Record.{Case, caseOf, Record, patternBy, predictionOf}
-use Rattle.sheet.specs.Neighbours.{neighbours}
-use Rattle.sheet.specs.Samples.{written, cut}
+use Rattle.sheet_blocks.specs.Neighbours.{neighbours}
+use Rattle.sheet_blocks.specs.Samples.{written, cut}
 use Rattle.sheet.specs.State.{after, nextX, nextY, lengthsOk, openRefusal}
 use Rattle.sheet.specs.Meaning.{recordRefusal}
 use Rattle.sheet.specs.declared.Sheet.{Sheet}

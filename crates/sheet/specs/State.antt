@@ -9,7 +9,7 @@ use Rattle.arith.specs.Checks.{unless, Answer, answer}
 use Rattle.depth_table.specs.Table.{tableOk}
 use Rattle.pattern.specs.Size.{sizeOk}
 use Rattle.pattern.specs.Answer.{countOk}
-use Rattle.sheet.specs.Grid.{longest, sideOk, blocks, blockX, blockY}
+use Rattle.sheet_blocks.specs.Grid.{longest, sideOk, blocks, blockX, blockY}
 use Rattle.sheet.specs.declared.Sheet.{Sheet}
 
 -- The state is n, width, height and the number of blocks placed.

@@ -13,11 +13,11 @@ ghost use Rattle.sheet.specs.Told.{composeTold};
 use crate::Composed;
 use crate::Placed;
 use crate::Sheet;
-use crate::samples::SAMPLES;
-use crate::samples::blank;
+use crate::placing::blank;
 use choice::Best;
 use choice::Choice;
 use pattern::lesser;
+use sheet_blocks::SAMPLES;
 
 // Writes a record at a place of the lent records.
 fn store(

@@ -1,8 +1,6 @@
 // A sheet of blocks (document 01, "Sheet").
 mod composing;
-mod neighbours;
 mod placing;
-mod samples;
 mod state;
 
 pub use composing::records_lent;

@@ -10,26 +10,29 @@ ghost use Rattle.pattern.specs.Contour.{contourOf};
 ghost use Rattle.pattern.specs.Size.{wordOk};
 ghost use Rattle.prediction.specs.Block.{predicted};
 ghost use Rattle.prediction.specs.Offset.{offsetOk};
-ghost use Rattle.sheet.specs.Neighbours.{neighbours};
-ghost use Rattle.sheet.specs.Samples.{written, cut};
+ghost use Rattle.sheet_blocks.specs.Neighbours.{neighbours};
+ghost use Rattle.sheet_blocks.specs.Samples.{written, cut};
 ghost use Rattle.sheet.specs.State.{after, area, nextX, nextY, Open};
 ghost use Rattle.sheet.specs.Meaning.{recordOf, kindRefusal};
 ghost use Rattle.sheet.specs.Place.{materialOf, textured, nextTexture, Predictable, nextWord, placeAnswer, placeAfter};
 ghost use Rattle.sheet.specs.Told.{meaningTold, placeTold};
 use crate::Placed;
 use crate::Sheet;
-use crate::neighbours::NEIGHBOURS;
-use crate::neighbours::neighbours_at;
-use crate::samples::SAMPLES;
-use crate::samples::blank;
-use crate::samples::cut_at;
-use crate::samples::write_at;
 use pattern::Contoured;
+use sheet_blocks::NEIGHBOURS;
+use sheet_blocks::SAMPLES;
 
 // What a record's kind and entry mean: the word of its pattern, or the number of the refusal.
 pub(crate) enum Meaning {
     Pattern(u64),
     Refused(u8),
+}
+
+// A block of zeros.
+pub(crate) fn blank() -> [u8; SAMPLES]
+    ensures { λ r. ⌜ length r ≡ 64 ⌝ }
+{
+    [0u8; SAMPLES]
 }
 
 // Whether both offsets are -255 to 255.
@@ -59,38 +62,12 @@ fn wedgelet_meaning(n: usize, list: &[u64], count: usize, entry: u32) -> Meaning
 }
 
 impl Sheet {
-    // The column of the first sample of the next block.
-    fn next_x(self) -> usize
-        requires { ⌜ Open self ⌝ }
-        ensures { λ r. ⌜ r ≡ nextX self ⌝ }
-    {
-        let n = self.n as usize;
-        let across = self.width as usize / n;
-        self.placed as usize % across * n
-    }
-
-    // The row of that sample.
-    fn next_y(self) -> usize
-        requires { ⌜ Open self ⌝ }
-        ensures { λ r. ⌜ r ≡ nextY self ⌝ }
-    {
-        let n = self.n as usize;
-        let across = self.width as usize / n;
-        self.placed as usize / across * n
-    }
-
     // The neighbours of the next block: 4n samples, and more past them.
     pub(crate) fn near_next(self, samples: &[u8]) -> [u8; NEIGHBOURS]
         requires { ⌜ (Open self) × (length (now samples) ≡ area self) ⌝ }
         ensures { λ r. ⌜ take (4 * self .n) r ≡ neighbours (self .n) (self .width) (self .placed) (now (samples .entry)) ⌝ }
     {
-        neighbours_at(
-            samples,
-            self.width as usize,
-            self.n as usize,
-            self.next_x(),
-            self.next_y(),
-        )
+        sheet_blocks::neighbours_of(samples, self.n, self.width, self.placed)
     }
 
     // The next block's part of a sheet's samples: n * n samples, row by row, and more past them.
@@ -98,13 +75,7 @@ impl Sheet {
         requires { ⌜ (Open self) × (length (now samples) ≡ area self) ⌝ }
         ensures { λ r. ⌜ take (self .n * self .n) r ≡ cut (self .n) (self .width) (nextX self) (nextY self) (now (samples .entry)) ⌝ }
     {
-        cut_at(
-            samples,
-            self.width as usize,
-            self.n as usize,
-            self.next_x(),
-            self.next_y(),
-        )
+        sheet_blocks::cut(samples, self.n, self.width, self.placed)
     }
 
     // The contour of the next block's own texture.
@@ -157,9 +128,7 @@ impl Sheet {
         ensures left { λ r. ⌜ now (samples .exit) ≡ written (self .n) (self .width) (nextX self) (nextY self) (predicted (self .n) word (neighbours (self .n) (self .width) (self .placed) (now (samples .entry))) (now (table .entry)) off0 off1) (now (samples .entry)) ⌝ }
     {
         let block = self.predict_next(samples, word, table, off0, off1);
-        let n = self.n as usize;
-        let width = self.width as usize;
-        write_at(samples, width, n, self.next_x(), self.next_y(), &block);
+        sheet_blocks::put(samples, self.n, self.width, self.placed, &block);
         self.placed = self.placed + 1;
         self
     }

@@ -3,7 +3,7 @@ ghost use mathlib.Core.Path.{_≡_};
 ghost use mathlib.Core.Bool.{_||_};
 ghost use lib.Dec.{eqb};
 ghost use Prim.Native.Nat.{_<_};
-ghost use Rattle.sheet.specs.Grid.{sideOk, blocks};
+ghost use Rattle.sheet_blocks.specs.Grid.{sideOk, blocks};
 ghost use Rattle.sheet.specs.State.{sidesOk, stateOf, lengthsOk, blocksOf, newAnswer, openRefusal};
 ghost use Rattle.sheet.specs.Told.{newTold};
 use crate::Made;

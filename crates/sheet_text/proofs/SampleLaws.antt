@@ -19,8 +19,8 @@ use Rattle.prediction.specs.Block.{sampleOf, predicted}
 use Rattle.prediction.proofs.BlockLaws.{level-byte}
 use Rattle.choice.specs.Record.{Record, patternOf, predictionOf}
 use Rattle.sheet.specs.declared.Sheet.{Sheet}
-use Rattle.sheet.specs.Grid.{sideOk}
-use Rattle.sheet.specs.Samples.{covers, writtenAt, written}
+use Rattle.sheet_blocks.specs.Grid.{sideOk}
+use Rattle.sheet_blocks.specs.Samples.{covers, writtenAt, written}
 use Rattle.sheet.specs.State.{after, area, nextX, nextY}
 use Rattle.sheet.specs.Place.{Material, placeCase, placedSamples, placedInTurn}
 use Rattle.sheet.proofs.StateLaws.{side-bounds}

@@ -14,8 +14,8 @@ use Rattle.pattern.specs.Wedgelet.{candidate, wedgelet, holds, keep, ends, star
 use Rattle.sides.specs.Sides.{vertEdge, horEdge, ltBy, brBy, lt, br, sideDepth}
 use Rattle.prediction.specs.Offset.{offsetOk}
 use Rattle.prediction.specs.Block.{levelOf, sampleOf, predicted}
-use Rattle.sheet.specs.Neighbours.{leftSource, topSource, neighboursAt}
-use Rattle.sheet.specs.Samples.{written}
+use Rattle.sheet_blocks.specs.Neighbours.{leftSource, topSource, neighboursAt}
+use Rattle.sheet_blocks.specs.Samples.{written}
 use Rattle.sheet.specs.Meaning.{recordRefusal}
 use Rattle.sheet.specs.Place.{placedSamples, placedInTurn}
 use Rattle.record_text.specs.declared.cursor.RecordFields.{RecordFields}

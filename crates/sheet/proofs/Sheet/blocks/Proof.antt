@@ -2,7 +2,7 @@
 use borrow.Author.Needs.{needs}
 use Prim.Native.Nat.{_/_}
 use native.Mathlib.Nat.{div-zero, zero-mul}
-use Rattle.sheet.proofs.GridLaws.{blocks-fit}
+use Rattle.sheet_blocks.proofs.GridLaws.{blocks-fit}
 use Rattle.sheet.proofs.Sheet.blocks.Statement.{statement}
 use Rattle.sheet.proofs.Sheet.blocks.Tie as tie
 

@@ -10,7 +10,7 @@ use Rattle.pattern.proofs.SizeLaws.{square-64}
 use Rattle.arith.specs.Checks.{given}
 use Rattle.pattern.specs.Contour.{contourOf}
 use Rattle.pattern.specs.Answer.{contourAnswer}
-use Rattle.sheet.specs.Samples.{cut}
+use Rattle.sheet_blocks.specs.Samples.{cut}
 use Rattle.sheet.specs.State.{nextX, nextY}
 use Rattle.pattern.specs.Told.{contourTold}
 use Rattle.sheet.proofs.CallLaws.{contour-given}

@@ -3,7 +3,7 @@ use borrow.Author.Needs.{needs}
 use mathlib.Core.Path.{sym, _∙_}
 use borrow.Author.Tests.{eq-eqb, ne-eqb, not-true, not-false}
 use Rattle.sheet.specs.State.{lengthsOk}
-use Rattle.sheet.proofs.GridLaws.{area-fits}
+use Rattle.sheet_blocks.proofs.GridLaws.{area-fits}
 use Rattle.sheet.proofs.Sheet.lengths_ok.Statement.{statement}
 use Rattle.sheet.proofs.Sheet.lengths_ok.Tie as tie
 
