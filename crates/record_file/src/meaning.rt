@@ -1,25 +1,12 @@
-// What is checked of a sheet's size and of a record.
+// What is checked of a record.
 ghost use mathlib.Core.Path.{_≡_};
 ghost use lib.Dec.{eqb, ltb};
 ghost use lib.ListN.{getD};
 ghost use Rattle.arith.specs.Checks.{unless};
 ghost use Rattle.pattern.specs.Size.{wordOk};
 ghost use Rattle.sheet.specs.Meaning.{kindRefusal, recordRefusal};
-ghost use Rattle.sheet.specs.State.{newRefusal};
 ghost use Rattle.record_file.specs.Text.{meant};
 use record_text::RecordFields;
-use sheet::Made;
-use sheet::Sheet;
-
-// Refusal 1 or 8 of size and sides, or 0.
-pub fn new_refusal(n: u32, width: u32, height: u32) -> u8
-    ensures { λ r. ⌜ r ≡ newRefusal n width height ⌝ }
-{
-    match Sheet::new(n, width, height) {
-        Made::New(_) => 0,
-        Made::Refused(number) => number,
-    }
-}
 
 // The word at a place of the list, 0 past its end.
 fn word_at(list: &[u64], at: usize) -> u64

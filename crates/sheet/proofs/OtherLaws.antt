@@ -16,7 +16,7 @@ use Rattle.sheet.specs.State.{area, blocksOf, nextX, nextY, Open}
 use Rattle.sheet.specs.Place.{Material, nextTexture, placeCase, placedSamples}
 use Rattle.sheet_blocks.specs.Laws.{SameBefore}
 use Rattle.sheet.specs.declared.Sheet.{Sheet}
-use Rattle.sheet.proofs.StateLaws.{multiple}
+use Rattle.sheet_checks.proofs.SideLaws.{multiple}
 use Rattle.sheet_blocks.proofs.NeighbourLaws.{neighbours-same}
 use Rattle.sheet_blocks.proofs.SampleLaws.{covered, covers-all, written-covered, written-others}
 

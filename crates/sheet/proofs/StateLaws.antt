@@ -1,10 +1,10 @@
 -- What holds of a state that has a block to place, and of one that the checks pass. Assumes nothing.
-use Prim.Native.Nat.{ℕ, _*_, _/_, _%_, _≤_}
+use Prim.Native.Nat.{ℕ, _*_, _≤_}
 use mathlib.Core.Bool.{Bool, true, false, _||_}
 use mathlib.Core.List.{List}
 use mathlib.Core.Logic.{_⊎_, inl, inr, ⊎-elim}
 use mathlib.Core.Path.{_≡_, refl}
-use native.Mathlib.Nat.{mul-le-mul, div-add-mod'}
+use native.Mathlib.Nat.{mul-le-mul}
 use native.Mathlib.Omega.{arith}
 use borrow.Author.Tests.{eq-eqb, eqb-true, le-leb, leb-true, lt-ltb, ltb-true}
 use lib.Dec.{eqb, leb, ltb}
@@ -13,25 +13,13 @@ use Rattle.arith.proofs.CheckLaws.{passed}
 use Rattle.depth_table.specs.Table.{tableOk}
 use Rattle.pattern.specs.Size.{sizeOk}
 use Rattle.pattern.proofs.SizeLaws.{size-bounds}
-use Rattle.sheet_blocks.specs.Grid.{longest, sideOk, liesIn}
-use Rattle.sheet.specs.State.{area, blocksOf, sidesOk, lengthsOk, stateRefusal, openRefusal, Open, Lengths}
+use Rattle.sheet_blocks.specs.Grid.{sideOk, liesIn}
+use Rattle.sheet_checks.specs.Checks.{lengthsOkBy, openRefusalBy}
+use Rattle.sheet_checks.proofs.SideLaws.{side-bounds}
+use Rattle.sheet.specs.State.{area, blocksOf, sidesOk, lengthsOk, openRefusal, Open, Lengths}
 use Rattle.sheet.specs.declared.Sheet.{Sheet}
 use Rattle.sheet_blocks.proofs.GridLaws.{block-lies}
 use Rattle.sheet.proofs.RefusalLaws.{unless-kept}
-
--- an allowed side is n to 128
-pub side-bounds : (n side : ℕ) → sideOk n side ≡ true → (n ≤ side) × (side ≤ longest)
-side-bounds n side h =
-    let a = both-of (leb n side) _ h in
-    let b = both-of (leb side longest) (eqb (side % n) 0) (a .1) in
-    (leb-true n side (a .0), leb-true side longest (b .0))
-
--- and a multiple of n
-pub multiple : (n side : ℕ) → sideOk n side ≡ true → side / n * n ≡ side
-multiple n side h =
-    let a = both-of (leb n side) _ h in
-    let b = both-of (leb side longest) (eqb (side % n) 0) (a .1) in
-    omega (arith, div-add-mod' side n, eqb-true (side % n) 0 (b .1))
 
 -- a sheet has at most 128 * 128 samples
 pub area-few : (S : Sheet) → Open S → area S ≤ 16384
@@ -45,7 +33,7 @@ next-lies S o e = block-lies (S .n) (S .width) (S .height) (S .placed) (o .size)
 
 pub lengths-are :
     (S : Sheet) (samples words count texture : ℕ) → lengthsOk S samples words count texture ≡ true → Lengths S samples words count texture
-unfolding lengthsOk
+unfolding lengthsOkBy
 lengths-are S samples words count texture h =
     let a = both-of (eqb samples (area S)) _ h in
     let b = both-of (eqb texture 0 || eqb texture (area S)) _ (a .1) in
@@ -68,7 +56,7 @@ one-of t p q = ⊎-elim (λ e. rw (eq-eqb t p e)) (λ e. rw (eq-eqb t q e) (or-t
 
 pub lengths-do :
     (S : Sheet) (samples words count texture : ℕ) → Lengths S samples words count texture → lengthsOk S samples words count texture ≡ true
-unfolding lengthsOk
+unfolding lengthsOkBy
 lengths-do S samples words count texture h =
     rw (
       eq-eqb samples (area S) (h .whole),
@@ -80,7 +68,7 @@ lengths-do S samples words count texture h =
 module _ (S : Sheet) (lengths : Bool) (t : List ℕ) where
   -- a refusal of the state or the table stays, whatever is checked after it
   pub open-kept : (rest : ℕ) → (openRefusal S lengths t 0 ≡ 0 → ⊥) → openRefusal S lengths t rest ≡ openRefusal S lengths t 0
-  unfolding openRefusal stateRefusal
+  unfolding openRefusalBy
   open-kept rest =
       unless-kept (sizeOk (S .n)) 0
       (unless-kept lengths 1
@@ -97,7 +85,7 @@ module _ (S : Sheet) (lengths : Bool) (t : List ℕ) where
     pub is : Open S
 
   pub opened : (rest : ℕ) → openRefusal S lengths t rest ≡ 0 → Opened × (rest ≡ 0)
-  unfolding openRefusal stateRefusal
+  unfolding openRefusalBy
   opened rest h =
       let a = passed (sizeOk (S .n)) 0 _ h in
       let b = passed lengths 1 _ (a .1) in
@@ -130,7 +118,7 @@ module _ (S : Sheet) (lengths : Bool) (t : List ℕ) where
 
   -- such a state is not refused
   pub open-none : (rest : ℕ) → Open S → lengths ≡ true → tableOk t ≡ true → openRefusal S lengths t rest ≡ rest
-  unfolding openRefusal stateRefusal
+  unfolding openRefusalBy
   open-none rest o right sound =
       rw (
         o .size,
@@ -143,7 +131,7 @@ module _ (S : Sheet) (lengths : Bool) (t : List ℕ) where
 
   -- then what is checked after it decides
   pub open-passed : (rest : ℕ) → openRefusal S lengths t 0 ≡ 0 → openRefusal S lengths t rest ≡ rest
-  unfolding openRefusal stateRefusal
+  unfolding openRefusalBy
   open-passed rest h =
       let a = passed (sizeOk (S .n)) 0 _ h in
       let b = passed lengths 1 _ (a .1) in

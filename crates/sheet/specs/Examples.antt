@@ -17,7 +17,8 @@ use Rattle.choice.specs.Record.{Record}
 use Rattle.choice.specs.Search.{sideCost, bestCost, bestPattern, chosen}
 use Rattle.sheet_blocks.specs.Neighbours.{leftSource, topSource, neighboursAt}
 use Rattle.sheet_blocks.specs.Samples.{written, cut}
-use Rattle.sheet.specs.State.{stateOf, lengthsOk, stateRefusal, openRefusal}
+use Rattle.sheet_checks.specs.Checks.{lengthsOkBy, openRefusalBy}
+use Rattle.sheet.specs.State.{stateOf}
 use Rattle.sheet.specs.Meaning.{recordOf, recordRefusal}
 use Rattle.sheet.specs.Place.{Material, materialOf, placedSamples, placeRefusal}
 use Rattle.sheet.specs.Compose.{Task, taskOf, composedTo, composedRecord}
@@ -59,7 +60,7 @@ pub record PlaceRefusals : Type 0 where
   pub none : placeRefusal (oneBlock 0) 16 sampleMaterial sampleRecord ≡ 0
 
 pub place-refusals : PlaceRefusals
-unfolding bytes rising tableOk offsetOk lengthsOk stateRefusal openRefusal recordRefusal placeRefusal
+unfolding bytes rising tableOk offsetOk lengthsOkBy openRefusalBy recordRefusal placeRefusal
 place-refusals =
     record {
       size = refl;

@@ -3,8 +3,6 @@ mod composing;
 mod placing;
 mod state;
 
-pub use composing::records_lent;
-
 // The state of a sheet of width by height samples in blocks of n by n: how many of its blocks are placed.
 pub struct Sheet {
     pub n: u32,

@@ -23,7 +23,7 @@ use Rattle.sheet_blocks.specs.Grid.{sideOk}
 use Rattle.sheet_blocks.specs.Samples.{covers, writtenAt, written}
 use Rattle.sheet.specs.State.{after, area, nextX, nextY}
 use Rattle.sheet.specs.Place.{Material, placeCase, placedSamples, placedInTurn}
-use Rattle.sheet.proofs.StateLaws.{side-bounds}
+use Rattle.sheet_checks.proofs.SideLaws.{side-bounds}
 use Rattle.record_text.specs.Lines.{Lined, refusedAt, read}
 use Rattle.record_file.specs.Text.{sizeFieldsOf}
 use Rattle.record_file.specs.Reading.{File, Aids, readFile}

@@ -6,7 +6,7 @@ use mathlib.Core.List.{List, []}
 use native.Mathlib.Omega.{arith}
 use lib.IntN.{ℤ, pos}
 use lib.ListN.{length, replicate, length-replicate}
-use Rattle.sheet.specs.Compose.{recordsLent}
+use Rattle.sheet_checks.specs.Checks.{recordsLent}
 use Rattle.record_text.specs.Lines.{Lined}
 use Rattle.record_text.proofs.WriteSteps.{written-as}
 use Rattle.record_file.specs.Reading.{File, Aids, aidsOf, readFile}

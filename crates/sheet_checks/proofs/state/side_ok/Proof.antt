@@ -1,8 +1,8 @@
 -- `side_ok` meets its contract, test by test.
 use borrow.Author.Needs.{needs}
 use borrow.Author.Tests.{le-leb, lt-leb}
-use Rattle.sheet.proofs.state.side_ok.Statement.{statement}
-use Rattle.sheet.proofs.state.side_ok.Tie as tie
+use Rattle.sheet_checks.proofs.state.side_ok.Statement.{statement}
+use Rattle.sheet_checks.proofs.state.side_ok.Tie as tie
 
 returns : tie.Need-returns
 returns c = rw (lt-leb _ _ (c .if1 .taken))

@@ -2,8 +2,8 @@
 use borrow.Author.Needs.{needs}
 use mathlib.Core.Path.{sym, _∙_}
 use borrow.Author.Tests.{not-true, not-false}
-use Rattle.sheet.proofs.state.sides_ok.Statement.{statement}
-use Rattle.sheet.proofs.state.sides_ok.Tie as tie
+use Rattle.sheet_checks.proofs.state.sides_ok.Statement.{statement}
+use Rattle.sheet_checks.proofs.state.sides_ok.Tie as tie
 
 side-ok-requires : tie.Need-side-ok-requires
 side-ok-requires c κs = search needs
