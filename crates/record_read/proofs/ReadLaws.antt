@@ -16,7 +16,7 @@ use Rattle.arith.proofs.CheckLaws.{passed}
 use Rattle.pattern.specs.Size.{sizeOk}
 use Rattle.sheet_checks.specs.Checks.{newRefusal}
 use Rattle.sheet.specs.State.{stateOf, sidesOk}
-use Rattle.sheet.proofs.RefusalLaws.{unless-kept}
+use Rattle.record_checks.proofs.RefusalLaws.{unless-kept}
 use Rattle.record_text.specs.declared.cursor.SizeFields.{SizeFields}
 use Rattle.record_text.specs.declared.cursor.RecordFields.{RecordFields}
 use Rattle.record_text.specs.Parsed.{Parsed, Parser, badForm, found}

@@ -7,7 +7,7 @@ ghost use lib.ListN.{length};
 ghost use Rattle.record_text.specs.Line.{valueLine, recordLine};
 ghost use Rattle.record_text.specs.Lines.{line, read};
 ghost use Rattle.record_text.specs.Told.{remaining};
-ghost use Rattle.sheet.specs.Meaning.{recordRefusal};
+ghost use Rattle.record_checks.specs.Meaning.{recordRefusal};
 ghost use Rattle.record_file.specs.Text.{meant};
 ghost use Rattle.record_file.specs.Reading.{sizeMeaning, valueMeaning, headLines};
 ghost use Rattle.record_read.specs.Stored.{valueTold, oneTold, sizeBackTold};

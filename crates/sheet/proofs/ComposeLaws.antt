@@ -19,13 +19,13 @@ use Rattle.choice.proofs.AcceptLaws.{words-at, accepted}
 use Rattle.choice.proofs.LeastLaws.{chosen-least}
 use Rattle.sheet_blocks.specs.Samples.{cut}
 use Rattle.sheet_blocks.proofs.AnswerLaws.{length-neighbours, length-cut}
+use Rattle.record_checks.proofs.MeaningLaws.{kind-zero, kind-one}
 use Rattle.sheet.specs.State.{nextX, nextY, Open, Lengths}
-use Rattle.sheet.specs.Meaning.{kindRefusal, offsetRefusal, recordRefusal}
+use Rattle.record_checks.specs.Meaning.{kindRefusal, offsetRefusal, recordRefusal}
 use Rattle.sheet.specs.Place.{textured, nextTexture, placeRefusal}
 use Rattle.sheet.specs.Compose.{Task, composeCase, chosenNext, choiceRefusal}
 use Rattle.sheet.specs.declared.Sheet.{Sheet}
 use Rattle.sheet.proofs.StateLaws.{lengths-do, open-none}
-use Rattle.sheet.proofs.MeaningLaws.{kind-zero, kind-one}
 
 -- ---- lengths
 

@@ -15,7 +15,7 @@ use Rattle.choice.specs.Record.{Record}
 use Rattle.choice.specs.Answer.{wordsOk}
 use Rattle.sheet_checks.specs.Checks.{openRefusalBy}
 use Rattle.sheet.specs.State.{blocksOf, sidesOk, lengthsOk, openRefusal}
-use Rattle.sheet.specs.Meaning.{kindRefusal, offsetRefusal, recordRefusal}
+use Rattle.record_checks.specs.Meaning.{kindRefusal, offsetRefusal, recordRefusal}
 use Rattle.sheet.specs.Place.{Material, textured, placeRefusal}
 use Rattle.sheet.specs.Compose.{Task, choiceRefusal, composeRefusal}
 use Rattle.sheet.specs.declared.Sheet.{Sheet}

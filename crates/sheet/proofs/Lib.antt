@@ -1,5 +1,4 @@
 -- Laws of the definitions.
-pub mod RefusalLaws
 pub mod StateLaws
 pub mod CallLaws
 pub mod MeaningLaws

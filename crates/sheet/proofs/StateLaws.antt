@@ -19,7 +19,7 @@ use Rattle.sheet_checks.proofs.SideLaws.{side-bounds}
 use Rattle.sheet.specs.State.{area, blocksOf, sidesOk, lengthsOk, openRefusal, Open, Lengths}
 use Rattle.sheet.specs.declared.Sheet.{Sheet}
 use Rattle.sheet_blocks.proofs.GridLaws.{block-lies}
-use Rattle.sheet.proofs.RefusalLaws.{unless-kept}
+use Rattle.record_checks.proofs.RefusalLaws.{unless-kept}
 
 -- a sheet has at most 128 * 128 samples
 pub area-few : (S : Sheet) → Open S → area S ≤ 16384

@@ -19,7 +19,7 @@ use Rattle.sheet_blocks.specs.Neighbours.{leftSource, topSource, neighboursAt}
 use Rattle.sheet_blocks.specs.Samples.{written, cut}
 use Rattle.sheet_checks.specs.Checks.{lengthsOkBy, openRefusalBy}
 use Rattle.sheet.specs.State.{stateOf}
-use Rattle.sheet.specs.Meaning.{recordOf, recordRefusal}
+use Rattle.record_checks.specs.Meaning.{recordOf, recordRefusal}
 use Rattle.sheet.specs.Place.{Material, materialOf, placedSamples, placeRefusal}
 use Rattle.sheet.specs.Compose.{Task, taskOf, composedTo, composedRecord}
 use Rattle.sheet.specs.declared.Sheet.{Sheet}

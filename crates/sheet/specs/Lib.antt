@@ -1,6 +1,5 @@
 -- Document 01, "Sheet".
 pub mod State
-pub mod Meaning
 pub mod Place
 pub mod Compose
 pub mod Told

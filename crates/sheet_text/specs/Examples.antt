@@ -16,7 +16,7 @@ use Rattle.prediction.specs.Offset.{offsetOk}
 use Rattle.prediction.specs.Block.{levelOf, sampleOf, predicted}
 use Rattle.sheet_blocks.specs.Neighbours.{leftSource, topSource, neighboursAt}
 use Rattle.sheet_blocks.specs.Samples.{written}
-use Rattle.sheet.specs.Meaning.{recordRefusal}
+use Rattle.record_checks.specs.Meaning.{recordRefusal}
 use Rattle.sheet.specs.Place.{placedSamples, placedInTurn}
 use Rattle.record_text.specs.declared.cursor.RecordFields.{RecordFields}
 use Rattle.record_text.specs.Numeral.{digitsOf, furtherDigits, numeral, signedNumeral}

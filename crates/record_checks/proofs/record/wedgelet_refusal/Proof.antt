@@ -1,9 +1,9 @@
 -- `wedgelet_refusal` meets its contract, check by check.
-use mathlib.Core.Path.{sym, _∙_, ap}
+use mathlib.Core.Path.{sym, _∙_}
 use borrow.Author.Tests.{lt-ltb, le-ltb, not-true, not-false}
 use borrow.Author.Needs.{needs}
-use Rattle.record_file.proofs.meaning.wedgelet_refusal.Statement.{statement}
-use Rattle.record_file.proofs.meaning.wedgelet_refusal.Tie as tie
+use Rattle.record_checks.proofs.record.wedgelet_refusal.Statement.{statement}
+use Rattle.record_checks.proofs.record.wedgelet_refusal.Tie as tie
 
 returns : tie.Need-returns
 returns c = rw (le-ltb _ _ (c .if1 .taken))

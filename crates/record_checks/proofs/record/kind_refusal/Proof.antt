@@ -1,9 +1,9 @@
 -- `kind_refusal` meets its contract, kind by kind.
 use borrow.Author.Needs.{needs}
-use Rattle.sheet.proofs.MeaningLaws.{kind-other}
+use Rattle.record_checks.proofs.MeaningLaws.{kind-other}
 use mathlib.Core.Path.{sym}
-use Rattle.record_file.proofs.meaning.kind_refusal.Statement.{statement}
-use Rattle.record_file.proofs.meaning.kind_refusal.Tie as tie
+use Rattle.record_checks.proofs.record.kind_refusal.Statement.{statement}
+use Rattle.record_checks.proofs.record.kind_refusal.Tie as tie
 
 wedgelet-refusal-requires : tie.Need-wedgelet-refusal-requires
 wedgelet-refusal-requires c κs = search needs

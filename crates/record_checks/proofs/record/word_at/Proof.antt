@@ -3,8 +3,8 @@ use Prim.Native.Nat.{ℕ}
 use mathlib.Core.Path.{sym}
 use lib.ListN.{List·getD-eq-default}
 use borrow.Author.Needs.{needs}
-use Rattle.record_file.proofs.meaning.word_at.Statement.{statement}
-use Rattle.record_file.proofs.meaning.word_at.Tie as tie
+use Rattle.record_checks.proofs.record.word_at.Statement.{statement}
+use Rattle.record_checks.proofs.record.word_at.Tie as tie
 
 mul-result : tie.Need-mul-result
 mul-result c = search needs

@@ -1,7 +1,7 @@
 -- `contour_refusal` meets its contract, check by check.
 use borrow.Author.Tests.{eq-eqb, ne-eqb}
-use Rattle.record_file.proofs.meaning.contour_refusal.Statement.{statement}
-use Rattle.record_file.proofs.meaning.contour_refusal.Tie as tie
+use Rattle.record_checks.proofs.record.contour_refusal.Statement.{statement}
+use Rattle.record_checks.proofs.record.contour_refusal.Tie as tie
 
 returns : tie.Need-returns
 returns c = rw (ne-eqb _ _ (c .if1 .taken))
