@@ -3,7 +3,7 @@
 ghost use mathlib.Core.Path.{_≡_};
 ghost use lib.ListN.{length};
 ghost use Rattle.sheet.specs.State.{stateOf};
-ghost use Rattle.sheet.specs.Compose.{recordsLent};
+ghost use Rattle.sheet_checks.specs.Checks.{recordsLent};
 ghost use Rattle.record_file.specs.Text.{recordAt};
 ghost use Rattle.record_file.specs.Writing.{sourceOf, writeAnswer, writeAfter};
 ghost use Rattle.record_file.specs.Reading.{aidsOf, readFile};

@@ -12,9 +12,9 @@ use Rattle.arith.proofs.CheckLaws.{passed}
 use Rattle.depth_table.specs.Table.{bytes, rising}
 use Rattle.pattern.specs.Size.{sizeOk}
 use Rattle.pattern.proofs.SizeLaws.{size-bounds}
-use Rattle.sheet.specs.Grid.{blocks, sideOk}
+use Rattle.sheet_blocks.specs.Grid.{blocks, sideOk}
 use Rattle.sheet.specs.State.{stateOf, sidesOk}
-use Rattle.sheet.proofs.StateLaws.{side-bounds}
+use Rattle.sheet_checks.proofs.SideLaws.{side-bounds}
 use Rattle.record_text.specs.declared.cursor.SizeFields.{SizeFields}
 use Rattle.record_text.specs.declared.cursor.RecordFields.{RecordFields}
 use Rattle.record_text.specs.Codec.{SizePrintable, RecordPrintable}

@@ -1,12 +1,12 @@
 -- What is checked of each value and record, line by line and all together, and that sound ones can be printed. Assumes nothing.
 use Prim.Native.Nat.{ℕ, zero, suc, _≤_, _<_}
-use mathlib.Core.Path.{_≡_, refl, ap, sym, _∙_}
-use mathlib.Core.Bool.{Bool, true, false, _&&_}
+use mathlib.Core.Path.{_≡_, refl}
+use mathlib.Core.Bool.{Bool, true, _&&_}
 use mathlib.Core.List.{List, [], _∷_}
 use native.Mathlib.Omega.{arith}
 use borrow.Author.Tests.{leb-true, ltb-true, eqb-true}
 use lib.Dec.{leb, ltb, eqb}
-use lib.IntN.{ℤ, natAbs}
+use lib.IntN.{natAbs}
 use lib.ListN.{length, getD}
 use Rattle.arith.proofs.Bools.{both-of}
 use Rattle.arith.proofs.CheckLaws.{passed}
@@ -14,8 +14,7 @@ use Rattle.depth_table.specs.Table.{bytes, rising}
 use Rattle.pattern.specs.Size.{wordOk}
 use Rattle.offset.specs.Offset.{offsetOk}
 use Rattle.choice.specs.Record.{Record}
-use Rattle.sheet.specs.Meaning.{kindRefusal, offsetRefusal, recordRefusal}
-use Rattle.sheet.proofs.MeaningLaws.{kind-kept, kind-passed}
+use Rattle.record_checks.specs.Meaning.{kindRefusal, offsetRefusal, recordRefusal}
 use Rattle.record_text.specs.declared.cursor.RecordFields.{RecordFields}
 use Rattle.record_text.specs.Codec.{NumberPrintable, RecordPrintable}
 use Rattle.record_text.specs.Lines.{Each}
@@ -113,32 +112,3 @@ where-textured n list count lent (suc (suc kind)) entry rest t h = h
 pub read-sound : (n : ℕ) (list : List ℕ) (count : ℕ) (lent : Bool) (r : RecordFields) → (r .kind ≡ 1 → lent ≡ true) → recordRefusal n list count true (meant r) ≡ 0 → recordRefusal n list count lent (meant r) ≡ 0
 unfolding recordRefusal
 read-sound n list count lent r t h = where-textured n list count lent (r .kind) (r .entry) _ t h
-
--- ---- the checks of a record as the code makes them: kind and entry, then each offset
-
-module _ (n : ℕ) (list : List ℕ) (count : ℕ) (lent : Bool) (r : RecordFields) where
-  pub kind-refuses : {x : ℕ} → x ≡ kindRefusal n list count lent (r .kind) (r .entry) 0 → (x ≡ 0 → ⊥) → x ≡ recordRefusal n list count lent (meant r)
-  unfolding recordRefusal
-  kind-refuses e h =
-      e ∙ sym (kind-kept n list count lent (r .kind) (r .entry) (offsetRefusal (meant r)) (λ z. h (e ∙ z)))
-
-  module _ (k : kindRefusal n list count lent (r .kind) (r .entry) 0 ≡ 0) where
-    pub off0-refuses : {z : ℤ} → z ≡ r .off0 → offsetOk z ≡ false → 4 ≡ recordRefusal n list count lent (meant r)
-    unfolding recordRefusal
-    off0-refuses e h =
-        let b : offsetOk (r .off0) ≡ false = ap offsetOk (sym e) ∙ h in
-        rw (kind-passed n list count lent (r .kind) (r .entry) (offsetRefusal (meant r)) k, b)
-
-    pub off1-refuses : {y z : ℤ} → y ≡ r .off0 → offsetOk y ≡ true → z ≡ r .off1 → offsetOk z ≡ false → 4 ≡ recordRefusal n list count lent (meant r)
-    unfolding recordRefusal
-    off1-refuses d g e h =
-        let a : offsetOk (r .off0) ≡ true = ap offsetOk (sym d) ∙ g in
-        let b : offsetOk (r .off1) ≡ false = ap offsetOk (sym e) ∙ h in
-        rw (kind-passed n list count lent (r .kind) (r .entry) (offsetRefusal (meant r)) k, a, b)
-
-    pub none-refuses : {y z : ℤ} → y ≡ r .off0 → offsetOk y ≡ true → z ≡ r .off1 → offsetOk z ≡ true → 0 ≡ recordRefusal n list count lent (meant r)
-    unfolding recordRefusal
-    none-refuses d g e h =
-        let a : offsetOk (r .off0) ≡ true = ap offsetOk (sym d) ∙ g in
-        let b : offsetOk (r .off1) ≡ true = ap offsetOk (sym e) ∙ h in
-        rw (kind-passed n list count lent (r .kind) (r .entry) (offsetRefusal (meant r)) k, a, b)

@@ -18,9 +18,9 @@ use Rattle.depth_table.proofs.TableLaws.{table-counts}
 use Rattle.pattern.specs.Size.{sizeOk}
 use Rattle.pattern.specs.Answer.{countOk}
 use Rattle.pattern.proofs.SizeLaws.{size-bounds}
-use Rattle.sheet.specs.Grid.{sideOk}
-use Rattle.sheet.proofs.RefusalLaws.{unless-kept}
-use Rattle.sheet.proofs.StateLaws.{side-bounds}
+use Rattle.sheet_blocks.specs.Grid.{sideOk}
+use Rattle.record_checks.proofs.RefusalLaws.{unless-kept}
+use Rattle.sheet_checks.proofs.SideLaws.{side-bounds}
 use Rattle.sheet.specs.declared.Sheet.{Sheet}
 use Rattle.sheet.specs.State.{blocksOf, sidesOk, stateRefusal}
 use Rattle.record_file.proofs.MeaningLaws.{record-small}

@@ -14,7 +14,7 @@ use Rattle.arith.proofs.Bools.{both-of}
 use Rattle.arith.proofs.ListLaws.{length-listOf, listOf-at, listOf-ext, listOf-own}
 use Rattle.depth_table.specs.Table.{tableOk, bytes, rising}
 use Rattle.sheet.specs.declared.Sheet.{Sheet}
-use Rattle.sheet.specs.Grid.{blocks}
+use Rattle.sheet_blocks.specs.Grid.{blocks}
 use Rattle.sheet.specs.State.{stateOf, area, blocksOf}
 use Rattle.sheet.specs.Place.{textured}
 use Rattle.record_text.specs.declared.cursor.RecordFields.{RecordFields}

@@ -10,7 +10,7 @@ use Rattle.depth_table.specs.Table.{tableOk, bytes, rising}
 use Rattle.depth_table.specs.Examples.{sampleTable}
 use Rattle.offset.specs.Offset.{offsetOk}
 use Rattle.sheet.specs.State.{stateOf, stateRefusal}
-use Rattle.sheet.specs.Meaning.{recordRefusal}
+use Rattle.record_checks.specs.Meaning.{recordRefusal}
 use Rattle.record_text.specs.declared.cursor.RecordFields.{RecordFields}
 use Rattle.record_text.specs.Numeral.{digitsOf, furtherDigits, numeral, signedNumeral}
 use Rattle.record_text.specs.Parsed.{exactly}

@@ -9,9 +9,9 @@ use Rattle.arith.specs.Checks.{unless}
 use Rattle.depth_table.specs.Table.{tableOk}
 use Rattle.pattern.specs.Size.{sizeOk}
 use Rattle.pattern.specs.Answer.{countOk}
-use Rattle.sheet.specs.Grid.{blocks}
+use Rattle.sheet_blocks.specs.Grid.{blocks}
 use Rattle.sheet.specs.State.{stateOf, sidesOk}
-use Rattle.sheet.specs.Meaning.{recordRefusal}
+use Rattle.record_checks.specs.Meaning.{recordRefusal}
 use Rattle.sheet.specs.Place.{textured}
 use Rattle.record_text.specs.declared.cursor.SizeFields.{SizeFields}
 use Rattle.record_text.specs.declared.cursor.RecordFields.{RecordFields}

@@ -5,7 +5,7 @@ use lib.IntN.{ℤ, pos}
 use lib.ListN.{length, getD}
 use Rattle.arith.specs.Lists.{listOf}
 use Rattle.choice.specs.Record.{Record}
-use Rattle.sheet.specs.Meaning.{recordOf}
+use Rattle.record_checks.specs.Meaning.{recordOf}
 use Rattle.record_text.specs.declared.cursor.SizeFields.{SizeFields}
 use Rattle.record_text.specs.declared.cursor.RecordFields.{RecordFields}
 use Rattle.record_text.specs.Line.{sizeTitle, depthTitle, recordTitle, sizeText, valueText, recordText}

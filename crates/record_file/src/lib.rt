@@ -3,5 +3,4 @@ mod lent;
 mod meaning;
 
 pub use lent::record_at;
-pub use meaning::new_refusal;
 pub use meaning::record_refusal;

@@ -1,83 +1,14 @@
-// What is checked of a sheet's size and of a record.
+// What is checked of a record.
 ghost use mathlib.Core.Path.{_≡_};
-ghost use lib.Dec.{eqb, ltb};
-ghost use lib.ListN.{getD};
-ghost use Rattle.arith.specs.Checks.{unless};
-ghost use Rattle.pattern.specs.Size.{wordOk};
-ghost use Rattle.sheet.specs.Meaning.{kindRefusal, recordRefusal};
-ghost use Rattle.sheet.specs.State.{newRefusal};
+ghost use Rattle.record_checks.specs.Meaning.{recordRefusal};
 ghost use Rattle.record_file.specs.Text.{meant};
 use record_text::RecordFields;
-use sheet::Made;
-use sheet::Sheet;
-
-// Refusal 1 or 8 of size and sides, or 0.
-pub fn new_refusal(n: u32, width: u32, height: u32) -> u8
-    ensures { λ r. ⌜ r ≡ newRefusal n width height ⌝ }
-{
-    match Sheet::new(n, width, height) {
-        Made::New(_) => 0,
-        Made::Refused(number) => number,
-    }
-}
-
-// The word at a place of the list, 0 past its end.
-fn word_at(list: &[u64], at: usize) -> u64
-    ensures { λ r. ⌜ r ≡ getD (now (list .entry)) at 0 ⌝ }
-{
-    if at < list.len() { list[at] } else { 0 }
-}
-
-// Kind 0: refusal 6 or 5, or 0 for none.
-fn wedgelet_refusal(n: usize, list: &[u64], count: usize, entry: u32) -> u8
-    ensures { λ r. ⌜ r ≡ unless (ltb entry count) 6 (unless (wordOk n (getD (now (list .entry)) entry 0)) 5 0) ⌝ }
-{
-    let at = entry as usize;
-    if count <= at {
-        return 6;
-    }
-    if !pattern::word_ok(n, word_at(list, at)) {
-        return 5;
-    }
-    0
-}
-
-// Kind 1: refusal 7 or 21, or 0 for none.
-fn contour_refusal(textured: bool, entry: u32) -> u8
-    ensures { λ r. ⌜ r ≡ unless (eqb entry 0) 7 (unless textured 21 0) ⌝ }
-{
-    if entry != 0 {
-        return 7;
-    }
-    if textured { 0 } else { 21 }
-}
-
-// The first refusal of kind and entry, or 0.
-fn kind_refusal(n: usize, list: &[u64], count: usize, textured: bool, kind: u32, entry: u32) -> u8
-    ensures { λ r. ⌜ r ≡ kindRefusal n (now (list .entry)) count textured kind entry 0 ⌝ }
-{
-    match kind {
-        0 => wedgelet_refusal(n, list, count, entry),
-        1 => contour_refusal(textured, entry),
-        _ => 7,
-    }
-}
 
 // The first refusal of a record, or 0.
 pub fn record_refusal(n: usize, list: &[u64], count: usize, textured: bool, r: RecordFields) -> u8
     ensures { λ t. ⌜ t ≡ recordRefusal n (now (list .entry)) count textured (meant r) ⌝ }
 {
-    let kind = kind_refusal(n, list, count, textured, r.kind, r.entry);
-    if kind != 0 {
-        return kind;
-    }
     let off0 = r.off0;
-    if !offset::offset_ok(off0) {
-        return 4;
-    }
     let off1 = r.off1;
-    if !offset::offset_ok(off1) {
-        return 4;
-    }
-    0
+    record_checks::record_refusal(n, list, count, textured, r.kind, r.entry, off0, off1)
 }

@@ -14,8 +14,9 @@ use Rattle.arith.specs.Checks.{unless}
 use Rattle.arith.proofs.Bools.{both-of}
 use Rattle.arith.proofs.CheckLaws.{passed}
 use Rattle.pattern.specs.Size.{sizeOk}
-use Rattle.sheet.specs.State.{stateOf, sidesOk, newRefusal}
-use Rattle.sheet.proofs.RefusalLaws.{unless-kept}
+use Rattle.sheet_checks.specs.Checks.{newRefusal}
+use Rattle.sheet.specs.State.{stateOf, sidesOk}
+use Rattle.record_checks.proofs.RefusalLaws.{unless-kept}
 use Rattle.record_text.specs.declared.cursor.SizeFields.{SizeFields}
 use Rattle.record_text.specs.declared.cursor.RecordFields.{RecordFields}
 use Rattle.record_text.specs.Parsed.{Parsed, Parser, badForm, found}

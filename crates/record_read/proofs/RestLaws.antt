@@ -15,11 +15,12 @@ use Rattle.arith.proofs.CheckLaws.{passed}
 use Rattle.pattern.specs.Size.{sizeOk}
 use Rattle.choice.specs.Record.{Record}
 use Rattle.sheet.specs.declared.Sheet.{Sheet}
-use Rattle.sheet.specs.Grid.{sideOk}
+use Rattle.sheet_blocks.specs.Grid.{sideOk}
 use Rattle.sheet.specs.State.{stateOf, after, sidesOk, lengthsOk, Lengths, Open}
 use Rattle.sheet.specs.Place.{Material, materialOf, placeRefusal, placedInTurn}
-use Rattle.sheet.specs.Compose.{recordsLent}
-use Rattle.sheet.proofs.StateLaws.{side-bounds, lengths-do, open-none}
+use Rattle.sheet_checks.specs.Checks.{recordsLent}
+use Rattle.sheet_checks.proofs.SideLaws.{side-bounds}
+use Rattle.sheet.proofs.StateLaws.{lengths-do, open-none}
 use Rattle.record_text.specs.declared.cursor.SizeFields.{SizeFields}
 use Rattle.record_text.specs.declared.cursor.RecordFields.{RecordFields}
 use Rattle.record_text.specs.Codec.{RecordPrintable}

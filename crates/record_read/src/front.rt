@@ -7,7 +7,7 @@ ghost use Rattle.record_text.specs.Parsed.{exactly};
 ghost use Rattle.record_text.specs.Line.{recordTitle};
 ghost use Rattle.record_text.specs.Lines.{line, read, noMeaning};
 ghost use Rattle.record_text.specs.Told.{remaining};
-ghost use Rattle.sheet.specs.Compose.{recordsLent};
+ghost use Rattle.sheet_checks.specs.Checks.{recordsLent};
 ghost use Rattle.record_file.specs.Reading.{tableLines, frontLines, lastLinesBy};
 ghost use Rattle.record_read.specs.Stored.{sizeBackTold, linesTold, only, sizeOnly, Slices, putRecords, putOr, TableIf};
 use crate::lines::SizeBack;

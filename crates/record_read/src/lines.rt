@@ -7,11 +7,10 @@ ghost use lib.ListN.{length};
 ghost use Rattle.record_text.specs.Line.{valueLine, recordLine};
 ghost use Rattle.record_text.specs.Lines.{line, read};
 ghost use Rattle.record_text.specs.Told.{remaining};
-ghost use Rattle.sheet.specs.Meaning.{recordRefusal};
+ghost use Rattle.record_checks.specs.Meaning.{recordRefusal};
 ghost use Rattle.record_file.specs.Text.{meant};
 ghost use Rattle.record_file.specs.Reading.{sizeMeaning, valueMeaning, headLines};
 ghost use Rattle.record_read.specs.Stored.{valueTold, oneTold, sizeBackTold};
-use record_file::new_refusal;
 use record_file::record_refusal;
 use record_text::Cursor;
 use record_text::NumberRead;
@@ -25,6 +24,7 @@ use record_text::read_record_line;
 use record_text::read_size_line;
 use record_text::read_size_title;
 use record_text::read_value_line;
+use sheet_checks::new_refusal;
 
 // A table value and the place after its line, or a refusal and its line.
 pub(crate) enum ValueRead {

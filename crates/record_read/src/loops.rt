@@ -5,7 +5,7 @@ ghost use mathlib.Core.List.{[], _∷_};
 ghost use lib.ListN.{length};
 ghost use lib.Seq.{sets};
 ghost use Rattle.record_text.specs.Told.{remaining};
-ghost use Rattle.sheet.specs.Compose.{recordsLent};
+ghost use Rattle.sheet_checks.specs.Checks.{recordsLent};
 ghost use Rattle.record_file.specs.Reading.{valueLines, recordLinesBy};
 ghost use Rattle.record_read.specs.Stored.{linesTold, only, putRecords, PutIf};
 use crate::lines::OneRead;

@@ -4,7 +4,7 @@ ghost use mathlib.Core.List.{_++_};
 ghost use Prim.Native.Nat.{ℕ, _*_, _<_, _≤_};
 ghost use lib.ListN.{length, take, drop};
 ghost use Rattle.record_text.specs.Lines.{refusedAt};
-ghost use Rattle.sheet.specs.Compose.{recordsLent};
+ghost use Rattle.sheet_checks.specs.Checks.{recordsLent};
 ghost use Rattle.sheet.specs.State.{after, stateOf};
 ghost use Rattle.sheet.specs.Place.{materialOf, placedSamples, placeRefusal, placedInTurn};
 ghost use Rattle.record_file.specs.Text.{meant, recordAt};
@@ -23,7 +23,7 @@ use record_text::RecordFields;
 use record_text::SizeFields;
 use sheet::Placed;
 use sheet::Sheet;
-use sheet::records_lent;
+use sheet_checks::records_lent;
 
 // Whether what is lent to reading is long enough.
 fn read_lengths_ok(samples: usize, records: usize, words: usize, count: usize) -> bool

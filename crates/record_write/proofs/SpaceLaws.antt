@@ -4,12 +4,10 @@ use mathlib.Core.Path.{_≡_, refl, sym}
 use mathlib.Core.Bool.{Bool, true, false}
 use native.Mathlib.Omega.{arith}
 use borrow.Author.Tests.{le-leb, lt-leb, leb-true, leb-false}
-use lib.Dec.{eqb, leb}
-use Rattle.arith.specs.Checks.{unless}
-use Rattle.pattern.specs.Size.{sizeOk}
+use lib.Dec.{leb}
 use Rattle.pattern.specs.Answer.{countOk}
 use Rattle.sheet.specs.declared.Sheet.{Sheet}
-use Rattle.sheet.specs.State.{blocksOf, sidesOk, newRefusal}
+use Rattle.sheet.specs.State.{blocksOf}
 use Rattle.record_file.specs.Writing.{spaceFor, writeLengthsOk}
 
 pub space-short : (v b s : ℕ) → s < 80 → false ≡ leb (spaceFor v b) s
@@ -39,12 +37,3 @@ module _ (S : Sheet) (words count values records space : ℕ) where
       → leb (spaceFor values (blocksOf S)) space ≡ writeLengthsOk S words count values records space
   unfolding writeLengthsOk
   write-space h l = rw (h, le-leb (blocksOf S) records l)
-
--- of a sheet whose size is allowed, a new one is refused only where a side is not
-pub sides-new : (S : Sheet) → sizeOk (S .n) ≡ true → eqb (newRefusal (S .n) (S .width) (S .height)) 0 ≡ sidesOk S
-unfolding newRefusal
-sides-new S h = rw h (go (sidesOk S))
-  where
-    go : (b : Bool) → eqb (unless b 8 0) 0 ≡ b
-    go true = refl
-    go false = refl

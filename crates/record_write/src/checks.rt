@@ -5,16 +5,16 @@ ghost use lib.Dec.{eqb, leb};
 ghost use lib.ListN.{length};
 ghost use Rattle.arith.specs.Checks.{unless};
 ghost use Rattle.depth_table.specs.Table.{tableOk};
-ghost use Rattle.sheet.specs.Compose.{recordsLent};
+ghost use Rattle.sheet_checks.specs.Checks.{recordsLent};
 ghost use Rattle.sheet.specs.State.{blocksOf, stateRefusal};
 ghost use Rattle.record_file.specs.Text.{recordAt};
 ghost use Rattle.record_file.specs.Writing.{firstTo, spaceFor, writeLengthsOk, writtenRefusal};
 use pattern::check;
 use pattern::count_ok;
-use record_file::new_refusal;
 use record_file::record_at;
 use record_file::record_refusal;
 use sheet::Sheet;
+use sheet_checks::state_refusal;
 
 // Whether there are 80 + 4 * values + 32 * blocks bytes. The products are not formed: they need not fit a machine word.
 fn space_ok(values: usize, blocks: u64, space: usize) -> bool
@@ -56,20 +56,18 @@ pub(crate) fn write_lengths_ok(
 pub(crate) fn finished_refusal(sheet: Sheet, lengths: bool, table: &[u8]) -> u8
     ensures { λ r. ⌜ r ≡ stateRefusal sheet lengths (unless (eqb (sheet .placed) (blocksOf sheet)) 22 (unless (tableOk (now (table .entry))) 3 0)) ⌝ }
 {
-    if !pattern::size_ok(sheet.n as usize) {
-        return 1;
-    }
     let placed = sheet.placed as u64;
     let blocks = sheet.blocks();
     let tables = check(depth_table::is_table(table), 3, 0);
     let missing = check(placed == blocks, 22, tables);
-    let over = check(placed <= blocks, 23, missing);
-    let sides = check(
-        new_refusal(sheet.n, sheet.width, sheet.height) == 0,
-        8,
-        over,
-    );
-    check(lengths, 2, sides)
+    state_refusal(
+        sheet.n,
+        sheet.width,
+        sheet.height,
+        sheet.placed,
+        lengths,
+        missing,
+    )
 }
 
 // The first refusal of the first m records, or 0.

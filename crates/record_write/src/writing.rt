@@ -2,7 +2,7 @@
 ghost use mathlib.Core.Path.{_≡_};
 ghost use Prim.Native.Nat.{ℕ, _+_, _*_, _<_, _≤_};
 ghost use lib.ListN.{length};
-ghost use Rattle.sheet.specs.Compose.{recordsLent};
+ghost use Rattle.sheet_checks.specs.Checks.{recordsLent};
 ghost use Rattle.record_text.specs.Line.{valueText, recordText};
 ghost use Rattle.record_text.specs.Lines.{texts};
 ghost use Rattle.record_print.specs.Put.{Written};
@@ -22,7 +22,7 @@ use record_print::put_value_line;
 use record_text::Cursor;
 use record_text::SizeFields;
 use sheet::Sheet;
-use sheet::records_lent;
+use sheet_checks::records_lent;
 
 // What `write` answers: the length of the text, or the number of its refusal.
 pub enum Wrote {

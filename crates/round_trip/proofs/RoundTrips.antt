@@ -16,10 +16,10 @@ use Rattle.pattern.specs.Size.{sizeOk}
 use Rattle.pattern.proofs.SizeLaws.{size-bounds}
 use Rattle.choice.specs.Record.{Record}
 use Rattle.sheet.specs.declared.Sheet.{Sheet}
-use Rattle.sheet.specs.Grid.{sideOk}
+use Rattle.sheet_blocks.specs.Grid.{sideOk}
 use Rattle.sheet.specs.State.{stateOf, area, blocksOf, sidesOk, Open}
 use Rattle.sheet.specs.Place.{placedInTurn}
-use Rattle.sheet.proofs.StateLaws.{side-bounds}
+use Rattle.sheet_checks.proofs.SideLaws.{side-bounds}
 use Rattle.sheet.proofs.InTurnLaws.{whole-same}
 use Rattle.record_text.specs.declared.cursor.RecordFields.{RecordFields}
 use Rattle.record_text.specs.Lines.{Lined, refusedAt, read}

@@ -10,7 +10,7 @@ use Rattle.arith.specs.Checks.{given}
 use Rattle.arith.specs.Lists.{listOf}
 use Rattle.sheet.specs.State.{stateOf, area, blocksOf}
 use Rattle.sheet.specs.Place.{materialOf, placedInTurn}
-use Rattle.sheet.specs.Compose.{recordsLent}
+use Rattle.sheet_checks.specs.Checks.{recordsLent}
 use Rattle.record_file.specs.Text.{meant, recordAt}
 use Rattle.record_file.specs.Reading.{File, Aids, readFile}
 use Rattle.record_file.specs.Writing.{Source, sourceOf, spaceFor, writeAnswer, writeAfter}

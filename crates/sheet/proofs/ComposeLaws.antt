@@ -8,7 +8,6 @@ use native.Mathlib.Omega.{arith}
 use borrow.Author.Tests.{le-leb, lt-ltb}
 use lib.IntN.{ℤ, natAbs}
 use lib.ListN.{length}
-use Rattle.arith.proofs.ListLaws.{length-listOf}
 use Rattle.depth_table.specs.Table.{tableOk}
 use Rattle.pattern.proofs.SizeLaws.{one-le-square}
 use Rattle.offset.specs.Offset.{offsetOk}
@@ -18,25 +17,17 @@ use Rattle.choice.specs.Search.{chosen}
 use Rattle.choice_checks.proofs.AcceptLaws as accept
 use Rattle.choice_checks.proofs.AcceptLaws.{words-at, accepted}
 use Rattle.choice.proofs.LeastLaws.{chosen-least}
-use Rattle.sheet.specs.Neighbours.{neighbours, neighboursAt}
-use Rattle.sheet.specs.Samples.{cut}
+use Rattle.sheet_blocks.specs.Samples.{cut}
+use Rattle.sheet_blocks.proofs.AnswerLaws.{length-neighbours, length-cut}
+use Rattle.record_checks.proofs.MeaningLaws.{kind-zero, kind-one}
 use Rattle.sheet.specs.State.{nextX, nextY, Open, Lengths}
-use Rattle.sheet.specs.Meaning.{kindRefusal, offsetRefusal, recordRefusal}
+use Rattle.record_checks.specs.Meaning.{kindRefusal, offsetRefusal, recordRefusal}
 use Rattle.sheet.specs.Place.{textured, nextTexture, placeRefusal}
 use Rattle.sheet.specs.Compose.{Task, composeCase, chosenNext, choiceRefusal}
 use Rattle.sheet.specs.declared.Sheet.{Sheet}
 use Rattle.sheet.proofs.StateLaws.{lengths-do, open-none}
-use Rattle.sheet.proofs.MeaningLaws.{kind-zero, kind-one}
 
 -- ---- lengths
-
-pub length-neighbours : (n w k : ℕ) (s : List ℕ) → length (neighbours n w k s) ≡ 4 * n
-unfolding neighboursAt
-length-neighbours n w k s = length-listOf _ (4 * n)
-
-pub length-cut : (n w x y : ℕ) (s : List ℕ) → length (cut n w x y s) ≡ n * n
-unfolding cut
-length-cut n w x y s = length-listOf _ (n * n)
 
 -- texture of a block is none or n * n samples, and lent where the sheet's is
 texture-length : (S : Sheet) (t : List ℕ) → (length (nextTexture S t) ≡ 0) ⊎ (length (nextTexture S t) ≡ S .n * S .n)

@@ -11,8 +11,9 @@ use Rattle.arith.specs.Checks.{Answer, refused, answer}
 use Rattle.arith.proofs.Bools.{both-of}
 use Rattle.arith.proofs.CheckLaws.{answer-refused, lent-refused}
 use Rattle.choice.specs.Record.{Record}
+use Rattle.sheet_checks.specs.Checks.{recordsLent}
 use Rattle.sheet.specs.State.{area, blocksOf, finished, lengthsOk, openRefusal}
-use Rattle.sheet.specs.Compose.{missing, Task, samplesBy, fieldBy, recordsLent, composeLengthsOk, choiceRefusal, Ready, composeRefusal, composeAnswer, composeAfter, composeField}
+use Rattle.sheet.specs.Compose.{missing, Task, samplesBy, fieldBy, composeLengthsOk, choiceRefusal, Ready, composeRefusal, composeAnswer, composeAfter, composeField}
 use Rattle.sheet.specs.declared.Sheet.{Sheet}
 use Rattle.sheet.proofs.StateLaws.{lengths-are, open-kept, open-passed, Opened}
 

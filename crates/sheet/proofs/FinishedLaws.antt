@@ -13,8 +13,9 @@ use Rattle.pattern.specs.Size.{sizeOk, wordOk}
 use Rattle.offset.specs.Offset.{offsetOk}
 use Rattle.choice_checks.specs.Refusal.{wordsOk}
 use Rattle.choice.specs.Record.{Record}
-use Rattle.sheet.specs.State.{blocksOf, sidesOk, lengthsOk, stateRefusal, openRefusal}
-use Rattle.sheet.specs.Meaning.{kindRefusal, offsetRefusal, recordRefusal}
+use Rattle.sheet_checks.specs.Checks.{openRefusalBy}
+use Rattle.sheet.specs.State.{blocksOf, sidesOk, lengthsOk, openRefusal}
+use Rattle.record_checks.specs.Meaning.{kindRefusal, offsetRefusal, recordRefusal}
 use Rattle.sheet.specs.Place.{Material, textured, placeRefusal}
 use Rattle.sheet.specs.Compose.{Task, choiceRefusal, composeRefusal}
 use Rattle.sheet.specs.declared.Sheet.{Sheet}
@@ -29,13 +30,13 @@ module _ (S : Sheet) (lengths : Bool) (t : List ℕ) (rest : ℕ) where
   -- a finished sheet whose size, lengths and sides are right
   finished-open :
       sizeOk (S .n) ≡ true → lengths ≡ true → sidesOk S ≡ true → S .placed ≡ blocksOf S → openRefusal S lengths t rest ≡ 20
-  unfolding openRefusal stateRefusal
+  unfolding openRefusalBy
   finished-open size right sides all =
       rw (size, right, sides, le-leb (S .placed) (blocksOf S) (omega arith), le-ltb (S .placed) (blocksOf S) (omega arith))
 
   -- nothing else gives 20, if the checks after these do not
   open-finished : (rest ≡ 20 → ⊥) → openRefusal S lengths t rest ≡ 20 → S .placed ≡ blocksOf S
-  unfolding openRefusal stateRefusal
+  unfolding openRefusalBy
   open-finished h e =
       let a = later (sizeOk (S .n)) 1 (λ z. absurd (omega arith)) e in
       let b = later lengths 2 (λ z. absurd (omega arith)) (a .1) in

@@ -1,11 +1,4 @@
 -- Laws of the definitions.
-pub mod GridLaws
-pub mod SourceLaws
-pub mod CaseLaws
-pub mod NeighbourLaws
-pub mod SampleLaws
-pub mod PartLaws
-pub mod RefusalLaws
 pub mod StateLaws
 pub mod CallLaws
 pub mod MeaningLaws

@@ -11,15 +11,15 @@ use Rattle.arith.specs.Square.{place}
 use Rattle.arith.proofs.Bools.{clash, both-of}
 use Rattle.choice_checks.specs.Case.{caseOf}
 use Rattle.choice.specs.Record.{Record, predictionOf}
-use Rattle.sheet.specs.Grid.{sideOk, blockX, blockY, blockHolding}
-use Rattle.sheet.specs.Samples.{covers, written}
+use Rattle.sheet_blocks.specs.Grid.{sideOk, blockX, blockY, blockHolding}
+use Rattle.sheet_blocks.specs.Samples.{covers, written}
 use Rattle.sheet.specs.State.{area, blocksOf, nextX, nextY, Open}
 use Rattle.sheet.specs.Place.{Material, nextTexture, placeCase, placedSamples}
-use Rattle.sheet.specs.Laws.{SameBefore}
+use Rattle.sheet_blocks.specs.Laws.{SameBefore}
 use Rattle.sheet.specs.declared.Sheet.{Sheet}
-use Rattle.sheet.proofs.StateLaws.{multiple}
-use Rattle.sheet.proofs.NeighbourLaws.{neighbours-same}
-use Rattle.sheet.proofs.SampleLaws.{covered, covers-all, written-covered, written-others}
+use Rattle.sheet_checks.proofs.SideLaws.{multiple}
+use Rattle.sheet_blocks.proofs.NeighbourLaws.{neighbours-same}
+use Rattle.sheet_blocks.proofs.SampleLaws.{covered, covers-all, written-covered, written-others}
 
 -- a sample that block k covers is held by block k
 along : (n q c : ℕ) → q * n ≤ c → c < q * n + n → c / n ≡ q

@@ -1,25 +1,26 @@
 -- What `place` answers and leaves, refused or not. Assumes nothing.
 use Prim.Native.Nat.{ℕ, zero, suc}
-use mathlib.Core.Bool.{Bool, true, false, _&&_}
+use mathlib.Core.Bool.{Bool}
 use mathlib.Core.List.{List, []}
+use mathlib.Core.Logic.{⊎-elim}
 use mathlib.Core.Path.{_≡_, refl, sym, ap, _∙_}
 use native.Mathlib.Omega.{arith}
+use borrow.Author.Tests.{ltb-true}
 use lib.ListN.{length}
-use Rattle.arith.specs.Checks.{unless, refused, given, answer}
-use Rattle.arith.proofs.Bools.{clash, both-of}
-use Rattle.arith.proofs.CheckLaws.{answer-refused, answer-given, lent-refused, lent-given, given-means, refused-means}
+use Rattle.arith.specs.Checks.{refused, given}
+use Rattle.arith.proofs.CheckLaws.{answer-refused, answer-given, lent-refused, lent-given}
 use Rattle.prediction.specs.Block.{predicted}
-use Rattle.offset.specs.Offset.{offsetOk}
 use Rattle.choice.specs.Record.{Record, patternBy}
-use Rattle.sheet.specs.Neighbours.{neighbours}
-use Rattle.sheet.specs.Samples.{written}
-use Rattle.sheet.specs.State.{after, nextX, nextY, lengthsOk, openRefusal}
-use Rattle.sheet.specs.Meaning.{kindRefusal, offsetRefusal, recordRefusal}
-use Rattle.sheet.specs.Place.{Material, textured, nextCase, nextWord, placedSamples, Predictable, placeRefusal, placeAnswer, placeAfter}
+use Rattle.sheet_blocks.specs.Neighbours.{neighbours}
+use Rattle.sheet_blocks.specs.Samples.{written}
+use Rattle.sheet_blocks.proofs.SampleLaws.{length-written}
+use Rattle.record_checks.specs.Meaning.{recordRefusal}
+use Rattle.record_checks.proofs.MeaningLaws.{kind-listed, kind-lit, record-none}
+use Rattle.sheet.specs.State.{after, nextX, nextY, lengthsOk, openRefusal, Lengths}
+use Rattle.sheet.specs.Place.{Material, textured, nextCase, nextWord, Named, placedSamples, Predictable, placeRefusal, placeAnswer, placeAfter}
 use Rattle.sheet.specs.declared.Sheet.{Sheet}
-use Rattle.sheet.proofs.SampleLaws.{length-written}
 use Rattle.sheet.proofs.StateLaws.{open-kept, open-passed, opened}
-use Rattle.sheet.proofs.MeaningLaws.{kind-kept, kind-passed, word-fits}
+use Rattle.sheet.proofs.MeaningLaws.{word-fits}
 
 -- the pattern depends on list and texture only
 pub next-word :
@@ -63,12 +64,6 @@ module _ (S : Sheet) (s : List ℕ) (M : Material) (r : Record) where
   abbrev lengths : Bool
   lengths = lengthsOk S (length s) (length (M .list)) (M .count) (length (M .texture))
 
-  abbrev kinds : ℕ
-  kinds = kindRefusal (S .n) (M .list) (M .count) (textured (M .texture)) (r .kind) (r .entry) 0
-
-  abbrev word : ℕ
-  word = nextWord S (M .list) (M .texture) (r .kind) (r .entry)
-
   -- the state or the table is refused
   pub state-refused :
       {l : Bool} {k : ℕ} → l ≡ lengthsOk S (length s) (length (M .list)) (M .count) (length (M .texture))
@@ -84,63 +79,41 @@ module _ (S : Sheet) (s : List ℕ) (M : Material) (r : Record) where
     unfolding placeRefusal
     record-decides = open-passed S lengths (M .table) _ none
 
-    -- kind or entry is refused
-    pub kind-refused :
-        {number : ℕ}
-        → refused number
-        ≡ answer (kindRefusal (S .n) (M .list) (M .count) (textured (M .texture)) (r .kind) (r .entry) 0)
-        (nextWord S (M .list) (M .texture) (r .kind) (r .entry))
-        → (refused number ≡ placeAnswer S s M r) × (s ≡ placeAfter S s M r)
-    unfolding recordRefusal
-    kind-refused {number} e =
-        let m = refused-means kinds number word (sym e) in
-        let k = kind-kept (S .n) (M .list) (M .count) (textured (M .texture)) (r .kind) (r .entry) (offsetRefusal r) (m .1) in
-        place-refused S s M r (m .0 ∙ sym k ∙ sym record-decides) (λ z. m .1 (sym (m .0) ∙ z))
+    -- the record is refused
+    pub record-refused :
+        {k : ℕ} → k ≡ recordRefusal (S .n) (M .list) (M .count) (textured (M .texture)) r → (k ≡ 0 → ⊥)
+        → (refused k ≡ placeAnswer S s M r) × (s ≡ placeAfter S s M r)
+    record-refused e h = place-refused S s M r (e ∙ sym record-decides) h
 
-    -- past that too
-    module _
-        {w : ℕ}
-        (means :
-        given w
-        ≡ answer (kindRefusal (S .n) (M .list) (M .count) (textured (M .texture)) (r .kind) (r .entry) 0)
-        (nextWord S (M .list) (M .texture) (r .kind) (r .entry)))
-      where
-        offsets-decide : placeRefusal S (length s) M r ≡ offsetRefusal r
-        unfolding recordRefusal
-        offsets-decide =
-            record-decides
-            ∙ kind-passed (S .n) (M .list) (M .count) (textured (M .texture)) (r .kind) (r .entry) (offsetRefusal r) (given-means kinds word w (sym means) .0)
+    -- nothing is refused
+    module _ (sound : recordRefusal (S .n) (M .list) (M .count) (textured (M .texture)) r ≡ 0) where
+      -- kind and entry name a pattern
+      pub named :
+          Lengths S (length s) (length (M .list)) (M .count) (length (M .texture)) → Named S (M .list) (M .texture) (r .kind) (r .entry)
+      named l =
+          let k = record-none (S .n) (M .list) (M .count) (textured (M .texture)) r sound .0 in
+          record {
+            listed = λ e. omega (arith, kind-listed (S .n) (M .list) (M .count) (textured (M .texture)) (r .kind) (r .entry) k e, l .inside);
+            lit = λ h.
+                let t = kind-lit (S .n) (M .list) (M .count) (textured (M .texture)) (r .kind) (r .entry) k h in
+                (t, ⊎-elim (λ e. absurd (omega (arith, ltb-true 0 (length (M .texture)) t))) (λ e. e) (l .optional));
+          }
 
-        -- an offset is refused
-        pub offset-refused : offsetOk (r .off0) && offsetOk (r .off1) ≡ false → (refused 4 ≡ placeAnswer S s M r) × (s ≡ placeAfter S s M r)
-        offset-refused e = place-refused S s M r (four ∙ sym offsets-decide) (λ z. absurd (omega arith))
-          where
-            go : (a b : Bool) → a && b ≡ false → 4 ≡ unless a 4 (unless b 4 0)
-            go true true h = clash h
-            go true false h = refl
-            go false b h = refl
-
-            four : 4 ≡ offsetRefusal r
-            four = go (offsetOk (r .off0)) (offsetOk (r .off1)) e
-
-        -- nothing is refused
-        pub predictable : offsetOk (r .off0) && offsetOk (r .off1) ≡ true → Predictable (S .n) w (M .table) (r .off0) (r .off1)
-        predictable e =
-            let b = both-of (offsetOk (r .off0)) (offsetOk (r .off1)) e in
-            let g = given-means kinds word w (sym means) in
+      -- w is that pattern
+      module _ {w : ℕ} (means : w ≡ nextWord S (M .list) (M .texture) (r .kind) (r .entry)) where
+        pub predictable : Predictable (S .n) w (M .table) (r .off0) (r .off1)
+        predictable =
+            let p = record-none (S .n) (M .list) (M .count) (textured (M .texture)) r sound in
             record {
-              fits = rw (← g .1) (word-fits S (M .list) (M .texture) (M .count) (textured (M .texture)) (r .kind) (r .entry) (g .0));
+              fits = rw means (word-fits S (M .list) (M .texture) (M .count) (textured (M .texture)) (r .kind) (r .entry) (p .0));
               sound = opened S lengths (M .table) 0 none .0 .sound;
-              first = b .0;
-              second = b .1;
+              first = p .1;
+              second = p .2;
             }
 
         pub all-given :
-            {T : Sheet} {t : List ℕ} → offsetOk (r .off0) && offsetOk (r .off1) ≡ true → T ≡ after 1 S
+            {T : Sheet} {t : List ℕ} → T ≡ after 1 S
             → t ≡ written (S .n) (S .width) (nextX S) (nextY S) (predicted (S .n) w (neighbours (S .n) (S .width) (S .placed) s) (M .table) (r .off0) (r .off1)) s
             → (given T ≡ placeAnswer S s M r) × (t ≡ placeAfter S s M r)
         unfolding placedSamples
-        all-given e p q =
-            let b = both-of (offsetOk (r .off0)) (offsetOk (r .off1)) e in
-            let g = given-means kinds word w (sym means) in
-            place-given S s M r (offsets-decide ∙ rw (b .0, b .1)) p (rw (← g .1, next-word S [] 0 s M (r .kind) (r .entry)) at q)
+        all-given p q = place-given S s M r (record-decides ∙ sound) p (rw (means, next-word S [] 0 s M (r .kind) (r .entry)) at q)

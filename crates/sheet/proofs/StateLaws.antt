@@ -1,10 +1,10 @@
 -- What holds of a state that has a block to place, and of one that the checks pass. Assumes nothing.
-use Prim.Native.Nat.{ℕ, _*_, _/_, _%_, _≤_, _<_}
+use Prim.Native.Nat.{ℕ, _*_, _≤_}
 use mathlib.Core.Bool.{Bool, true, false, _||_}
 use mathlib.Core.List.{List}
 use mathlib.Core.Logic.{_⊎_, inl, inr, ⊎-elim}
 use mathlib.Core.Path.{_≡_, refl}
-use native.Mathlib.Nat.{mul-le-mul, div-add-mod'}
+use native.Mathlib.Nat.{mul-le-mul}
 use native.Mathlib.Omega.{arith}
 use borrow.Author.Tests.{eq-eqb, eqb-true, le-leb, leb-true, lt-ltb, ltb-true}
 use lib.Dec.{eqb, leb, ltb}
@@ -13,55 +13,27 @@ use Rattle.arith.proofs.CheckLaws.{passed}
 use Rattle.depth_table.specs.Table.{tableOk}
 use Rattle.pattern.specs.Size.{sizeOk}
 use Rattle.pattern.proofs.SizeLaws.{size-bounds}
-use Rattle.sheet.specs.Grid.{longest, sideOk, Inside}
-use Rattle.sheet.specs.State.{area, blocksOf, nextX, nextY, sidesOk, lengthsOk, stateRefusal, openRefusal, Open, Lengths}
+use Rattle.sheet_blocks.specs.Grid.{sideOk, liesIn}
+use Rattle.sheet_checks.specs.Checks.{lengthsOkBy, openRefusalBy}
+use Rattle.sheet_checks.proofs.SideLaws.{side-bounds}
+use Rattle.sheet.specs.State.{area, blocksOf, sidesOk, lengthsOk, openRefusal, Open, Lengths}
 use Rattle.sheet.specs.declared.Sheet.{Sheet}
-use Rattle.sheet.proofs.GridLaws.{per-pos, block-inside, rows-few}
-use Rattle.sheet.proofs.RefusalLaws.{unless-kept}
-
--- an allowed side is n to 128
-pub side-bounds : (n side : ℕ) → sideOk n side ≡ true → (n ≤ side) × (side ≤ longest)
-side-bounds n side h =
-    let a = both-of (leb n side) _ h in
-    let b = both-of (leb side longest) (eqb (side % n) 0) (a .1) in
-    (leb-true n side (a .0), leb-true side longest (b .0))
-
--- and a multiple of n
-pub multiple : (n side : ℕ) → sideOk n side ≡ true → side / n * n ≡ side
-multiple n side h =
-    let a = both-of (leb n side) _ h in
-    let b = both-of (leb side longest) (eqb (side % n) 0) (a .1) in
-    omega (arith, div-add-mod' side n, eqb-true (side % n) 0 (b .1))
-
--- a row has a block
-pub open-across : (S : Sheet) → Open S → 0 < S .width / S .n
-open-across S o = per-pos (S .n) (S .width) (omega (arith, o .low)) (o .wide)
+use Rattle.sheet_blocks.proofs.GridLaws.{block-lies}
+use Rattle.record_checks.proofs.RefusalLaws.{unless-kept}
 
 -- a sheet has at most 128 * 128 samples
 pub area-few : (S : Sheet) → Open S → area S ≤ 16384
 area-few S o = mul-le-mul {n₁ = S .width} {m₁ = S .height} {n₂ = 128} {m₂ = 128} (o .narrow) (o .short)
 
--- the next block lies inside the sheet
-pub next-inside :
-    (S : Sheet) {samples x y : ℕ} → Open S → samples ≡ area S → x ≡ nextX S → y ≡ nextY S → Inside (S .n) (S .width) samples x y
-next-inside S o e p q =
-    rw (e, p, q) (block-inside (S .n) (S .width) (S .height) (S .placed) (omega (arith, o .low)) (o .wide) (o .missing))
-
-pub next-column : (S : Sheet) → Open S → nextX S ≤ 128
-next-column S o =
-    let p = block-inside (S .n) (S .width) (S .height) (S .placed) (omega (arith, o .low)) (o .wide) (o .missing) in
-    omega (arith, p .across, o .narrow)
-
-pub next-row : (S : Sheet) → Open S → nextY S ≤ 16384
-next-row S o =
-    let p = block-inside (S .n) (S .width) (S .height) (S .placed) (omega (arith, o .low)) (o .wide) (o .missing) in
-    omega (arith, rows-few p, area-few S o)
+-- the next block lies inside the samples
+pub next-lies : (S : Sheet) {samples : ℕ} → Open S → samples ≡ area S → liesIn (S .n) (S .width) (S .placed) samples ≡ true
+next-lies S o e = block-lies (S .n) (S .width) (S .height) (S .placed) (o .size) (o .wide) (o .narrow) (o .missing) e
 
 -- ---- the checks of a state
 
 pub lengths-are :
     (S : Sheet) (samples words count texture : ℕ) → lengthsOk S samples words count texture ≡ true → Lengths S samples words count texture
-unfolding lengthsOk
+unfolding lengthsOkBy
 lengths-are S samples words count texture h =
     let a = both-of (eqb samples (area S)) _ h in
     let b = both-of (eqb texture 0 || eqb texture (area S)) _ (a .1) in
@@ -84,7 +56,7 @@ one-of t p q = ⊎-elim (λ e. rw (eq-eqb t p e)) (λ e. rw (eq-eqb t q e) (or-t
 
 pub lengths-do :
     (S : Sheet) (samples words count texture : ℕ) → Lengths S samples words count texture → lengthsOk S samples words count texture ≡ true
-unfolding lengthsOk
+unfolding lengthsOkBy
 lengths-do S samples words count texture h =
     rw (
       eq-eqb samples (area S) (h .whole),
@@ -96,7 +68,7 @@ lengths-do S samples words count texture h =
 module _ (S : Sheet) (lengths : Bool) (t : List ℕ) where
   -- a refusal of the state or the table stays, whatever is checked after it
   pub open-kept : (rest : ℕ) → (openRefusal S lengths t 0 ≡ 0 → ⊥) → openRefusal S lengths t rest ≡ openRefusal S lengths t 0
-  unfolding openRefusal stateRefusal
+  unfolding openRefusalBy
   open-kept rest =
       unless-kept (sizeOk (S .n)) 0
       (unless-kept lengths 1
@@ -113,7 +85,7 @@ module _ (S : Sheet) (lengths : Bool) (t : List ℕ) where
     pub is : Open S
 
   pub opened : (rest : ℕ) → openRefusal S lengths t rest ≡ 0 → Opened × (rest ≡ 0)
-  unfolding openRefusal stateRefusal
+  unfolding openRefusalBy
   opened rest h =
       let a = passed (sizeOk (S .n)) 0 _ h in
       let b = passed lengths 1 _ (a .1) in
@@ -146,7 +118,7 @@ module _ (S : Sheet) (lengths : Bool) (t : List ℕ) where
 
   -- such a state is not refused
   pub open-none : (rest : ℕ) → Open S → lengths ≡ true → tableOk t ≡ true → openRefusal S lengths t rest ≡ rest
-  unfolding openRefusal stateRefusal
+  unfolding openRefusalBy
   open-none rest o right sound =
       rw (
         o .size,
@@ -159,7 +131,7 @@ module _ (S : Sheet) (lengths : Bool) (t : List ℕ) where
 
   -- then what is checked after it decides
   pub open-passed : (rest : ℕ) → openRefusal S lengths t 0 ≡ 0 → openRefusal S lengths t rest ≡ rest
-  unfolding openRefusal stateRefusal
+  unfolding openRefusalBy
   open-passed rest h =
       let a = passed (sizeOk (S .n)) 0 _ h in
       let b = passed lengths 1 _ (a .1) in

@@ -1,5 +1,5 @@
 -- Document 01, "Sheet": composing, which chooses and places every block still missing. Assumes nothing.
-use Prim.Native.Nat.{ℕ, zero, suc, _-_, _≤_, min}
+use Prim.Native.Nat.{ℕ, zero, suc, _-_, _≤_}
 use mathlib.Core.Path.{_≡_}
 use mathlib.Core.Bool.{Bool, true, _&&_, _||_}
 use mathlib.Core.List.{List, _++_}
@@ -13,7 +13,7 @@ use Rattle.choice_checks.specs.Case.{Case}
 use Rattle.choice_checks.specs.Refusal.{wordsOk}
 use Rattle.choice.specs.Record.{Record}
 use Rattle.choice.specs.Search.{chosen}
-use Rattle.sheet.specs.Samples.{cut}
+use Rattle.sheet_blocks.specs.Samples.{cut}
 use Rattle.sheet.specs.State.{after, area, blocksOf, finished, nextX, nextY, lengthsOk, openRefusal, Open, Lengths}
 use Rattle.sheet.specs.Place.{Material, textured, nextCase, placedSamples}
 use Rattle.sheet.specs.declared.Sheet.{Sheet}
@@ -69,10 +69,6 @@ pub record Leaves (refusal : ℕ) (S : Sheet) (T : Task) (samples0 kinds0 entrie
   pub entries-are : entries1 ≡ fieldBy refusal (λ r. r .entry) S samples0 T entries0
   pub first-are : first1 ≡ fieldBy refusal (λ r. r .off0) S samples0 T first0
   pub second-are : second1 ≡ fieldBy refusal (λ r. r .off1) S samples0 T second0
-
--- as many records are lent as the shortest of the four slices has
-abbrev pub recordsLent : ℕ → ℕ → ℕ → ℕ → ℕ
-recordsLent kinds entries offs0 offs1 = min kinds (min entries (min offs0 offs1))
 
 -- lengths as in placing, an original of as many samples as the sheet, and no fewer records than blocks
 unfoldable pub composeLengthsOk : Sheet → ℕ → ℕ → ℕ → ℕ → ℕ → ℕ → Bool

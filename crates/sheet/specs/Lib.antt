@@ -1,9 +1,5 @@
 -- Document 01, "Sheet".
-pub mod Grid
-pub mod Neighbours
-pub mod Samples
 pub mod State
-pub mod Meaning
 pub mod Place
 pub mod Compose
 pub mod Told

@@ -1,5 +1,5 @@
 -- Document 01, "Sheet": placing a record. Assumes nothing.
-use Prim.Native.Nat.{ℕ, zero, suc}
+use Prim.Native.Nat.{ℕ, zero, suc, _<_}
 use mathlib.Core.Path.{_≡_}
 use mathlib.Core.Bool.{Bool, true, cond}
 use mathlib.Core.List.{List, []}
@@ -12,10 +12,10 @@ use Rattle.pattern.specs.Size.{wordOk}
 use Rattle.offset.specs.Offset.{offsetOk}
 use Rattle.choice_checks.specs.Case.{Case, caseOf}
 use Rattle.choice.specs.Record.{Record, patternBy, predictionOf}
-use Rattle.sheet.specs.Neighbours.{neighbours}
-use Rattle.sheet.specs.Samples.{written, cut}
-use Rattle.sheet.specs.State.{after, nextX, nextY, lengthsOk, openRefusal}
-use Rattle.sheet.specs.Meaning.{recordRefusal}
+use Rattle.sheet_blocks.specs.Neighbours.{neighbours}
+use Rattle.sheet_blocks.specs.Samples.{written, cut}
+use Rattle.sheet.specs.State.{after, area, nextX, nextY, lengthsOk, openRefusal}
+use Rattle.record_checks.specs.Meaning.{recordRefusal}
 use Rattle.sheet.specs.declared.Sheet.{Sheet}
 
 -- what records are placed with: the wedgelet list (document 01: the edge list) and its count, the depth table, and texture of the
@@ -48,6 +48,11 @@ placeCase S M s = nextCase S M [] 0 s
 -- the pattern of a record for the next block
 abbrev pub nextWord : Sheet → List ℕ → List ℕ → ℕ → ℕ → ℕ
 nextWord S list texture kind entry = patternBy (placeCase S (materialOf list 0 [] texture) []) kind entry
+
+-- a record's kind and entry name a pattern: a word that the list has, or the contour of lent texture
+pub record Named (S : Sheet) (list texture : List ℕ) (kind entry : ℕ) : Type 0 where
+  pub listed : kind ≡ 0 → entry < length list
+  pub lit : (kind ≡ 0 → ⊥) → (textured texture ≡ true) × (length texture ≡ area S)
 
 -- the samples with the record's predicted block in the next place
 unfoldable pub placedSamples : Sheet → Material → List ℕ → Record → List ℕ

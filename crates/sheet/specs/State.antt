@@ -1,15 +1,13 @@
 -- Document 01, "Sheet": the state of a sheet, and what every call on one checks of it. Assumes nothing.
 use Prim.Native.Nat.{ℕ, _+_, _*_, _≤_, _<_}
 use mathlib.Core.Path.{_≡_}
-use mathlib.Core.Bool.{Bool, true, _&&_, _||_}
+use mathlib.Core.Bool.{Bool, true}
 use mathlib.Core.List.{List}
 use mathlib.Core.Logic.{_⊎_}
-use lib.Dec.{eqb, leb, ltb}
-use Rattle.arith.specs.Checks.{unless, Answer, answer}
-use Rattle.depth_table.specs.Table.{tableOk}
+use Rattle.arith.specs.Checks.{Answer, answer}
 use Rattle.pattern.specs.Size.{sizeOk}
-use Rattle.pattern.specs.Answer.{countOk}
-use Rattle.sheet.specs.Grid.{longest, sideOk, blocks, blockX, blockY}
+use Rattle.sheet_blocks.specs.Grid.{longest, blocks, blockX, blockY}
+use Rattle.sheet_checks.specs.Checks.{sidesOkBy, newRefusal, lengthsOkBy, stateRefusalBy, openRefusalBy}
 use Rattle.sheet.specs.declared.Sheet.{Sheet}
 
 -- The state is n, width, height and the number of blocks placed.
@@ -41,11 +39,7 @@ nextY S = blockY (S .n) (S .width) (S .placed)
 -- ---- a new sheet
 
 abbrev pub sidesOk : Sheet → Bool
-sidesOk S = sideOk (S .n) (S .width) && sideOk (S .n) (S .height)
-
--- 1: the size; 8: a side
-unfoldable pub newRefusal : ℕ → ℕ → ℕ → ℕ
-newRefusal n w h = unless (sizeOk n) 1 (unless (sidesOk (stateOf n w h 0)) 8 0)
+sidesOk S = sidesOkBy (S .n) (S .width) (S .height)
 
 -- `Sheet::new` answers the state of an empty sheet
 unfoldable pub newAnswer : ℕ → ℕ → ℕ → Answer Sheet
@@ -53,23 +47,17 @@ newAnswer n w h = answer (newRefusal n w h) (stateOf n w h 0)
 
 -- ---- what is checked of a state
 
--- as many samples as width * height, texture of none or as many samples, and a count that the lent words and 9,999 allow
-unfoldable pub lengthsOk : Sheet → ℕ → ℕ → ℕ → ℕ → Bool
-lengthsOk S samples words count texture =
-    eqb samples (area S) && ((eqb texture 0 || eqb texture (area S)) && countOk words count)
+-- 2: the lengths of the lent samples, words, count and texture
+abbrev pub lengthsOk : Sheet → ℕ → ℕ → ℕ → ℕ → Bool
+lengthsOk S samples words count texture = lengthsOkBy (S .width) (S .height) samples words count texture
 
--- 1: the size; 2: the lengths, whether they hold; 8: a side; 23: more blocks placed than the sheet has; then the rest
+-- 1, 2, 8, 23, then the rest
 unfoldable pub stateRefusal : Sheet → Bool → ℕ → ℕ
-stateRefusal S lengths rest =
-    unless (sizeOk (S .n)) 1
-    (unless lengths 2
-    (unless (sidesOk S) 8
-    (unless (leb (S .placed) (blocksOf S)) 23 rest)))
+stateRefusal S lengths rest = stateRefusalBy (S .n) (S .width) (S .height) (S .placed) lengths rest
 
--- in placing and composing, 20: all blocks are placed; 3: the table; then the rest
-unfoldable pub openRefusal : Sheet → Bool → List ℕ → ℕ → ℕ
-openRefusal S lengths t rest =
-    stateRefusal S lengths (unless (ltb (S .placed) (blocksOf S)) 20 (unless (tableOk t) 3 rest))
+-- in placing and composing 1, 2, 8, 23, 20, 3, then the rest
+abbrev pub openRefusal : Sheet → Bool → List ℕ → ℕ → ℕ
+openRefusal S lengths t rest = openRefusalBy (S .n) (S .width) (S .height) (S .placed) lengths t rest
 
 -- what holds of a state that has a block to place
 pub record Open (S : Sheet) : Type 0 where

@@ -8,8 +8,6 @@ use Rattle.sheet.specs.declared.Placed.{Placed}
 use Rattle.sheet.specs.declared.Placed.the-variants as placed
 use Rattle.sheet.specs.declared.Composed.{Composed}
 use Rattle.sheet.specs.declared.Composed.the-variants as composed
-use Rattle.sheet.specs.declared.placing.Meaning.{Meaning}
-use Rattle.sheet.specs.declared.placing.Meaning.the-variants as meaning
 
 abbrev pub newTold : Made → Answer Sheet
 newTold (made.New S) = given S
@@ -22,7 +20,3 @@ placeTold (placed.Refused number) = refused number
 abbrev pub composeTold : Composed → Answer (Sheet × ℕ)
 composeTold (composed.Finished S written) = given (S, written)
 composeTold (composed.Refused number) = refused number
-
-abbrev pub meaningTold : Meaning → Answer ℕ
-meaningTold (meaning.Pattern word) = given word
-meaningTold (meaning.Refused number) = refused number

@@ -8,16 +8,17 @@ ghost use Rattle.arith.specs.Checks.{answer};
 ghost use Rattle.choice.specs.Answer.{chooseAnswer, chooseTold, recordTold};
 ghost use Rattle.sheet.specs.State.{after, area, finished, Open};
 ghost use Rattle.sheet.specs.Place.{materialOf, textured, nextTexture, placedSamples, placeRefusal};
-ghost use Rattle.sheet.specs.Compose.{missing, taskOf, choiceRefusal, Ready, Leaves, composeCase, recordsLent, composeLengthsOk, composeAnswer, composeAfter, composeField};
+ghost use Rattle.sheet.specs.Compose.{missing, taskOf, choiceRefusal, Ready, Leaves, composeCase, composeLengthsOk, composeAnswer, composeAfter, composeField};
+ghost use Rattle.sheet_checks.specs.Checks.{recordsLent};
 ghost use Rattle.sheet.specs.Told.{composeTold};
 use crate::Composed;
 use crate::Placed;
 use crate::Sheet;
-use crate::samples::SAMPLES;
-use crate::samples::blank;
+use crate::placing::blank;
 use choice::Best;
 use choice::Choice;
-use pattern::lesser;
+use sheet_blocks::SAMPLES;
+use sheet_checks::records_lent;
 
 // Writes a record at a place of the lent records.
 fn store(
@@ -40,13 +41,6 @@ fn store(
     offs0[at] = off0;
     let off1 = best.off1;
     offs1[at] = off1;
-}
-
-// As many records are lent as the shortest of the four slices has.
-pub fn records_lent(kinds: usize, entries: usize, offs0: usize, offs1: usize) -> usize
-    ensures { λ r. ⌜ r ≡ recordsLent kinds entries offs0 offs1 ⌝ }
-{
-    lesser(kinds, lesser(entries, lesser(offs0, offs1)))
 }
 
 impl Sheet {

@@ -1,11 +1,7 @@
 // A sheet of blocks (document 01, "Sheet").
 mod composing;
-mod neighbours;
 mod placing;
-mod samples;
 mod state;
-
-pub use composing::records_lent;
 
 // The state of a sheet of width by height samples in blocks of n by n: how many of its blocks are placed.
 pub struct Sheet {

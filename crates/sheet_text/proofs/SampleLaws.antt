@@ -19,11 +19,11 @@ use Rattle.prediction.specs.Block.{sampleOf, predicted}
 use Rattle.offset.proofs.LevelLaws.{level-byte}
 use Rattle.choice.specs.Record.{Record, patternOf, predictionOf}
 use Rattle.sheet.specs.declared.Sheet.{Sheet}
-use Rattle.sheet.specs.Grid.{sideOk}
-use Rattle.sheet.specs.Samples.{covers, writtenAt, written}
+use Rattle.sheet_blocks.specs.Grid.{sideOk}
+use Rattle.sheet_blocks.specs.Samples.{covers, writtenAt, written}
 use Rattle.sheet.specs.State.{after, area, nextX, nextY}
 use Rattle.sheet.specs.Place.{Material, placeCase, placedSamples, placedInTurn}
-use Rattle.sheet.proofs.StateLaws.{side-bounds}
+use Rattle.sheet_checks.proofs.SideLaws.{side-bounds}
 use Rattle.record_text.specs.Lines.{Lined, refusedAt, read}
 use Rattle.sheet_print.proofs.PrintLaws.{refusal-short, sheet-short}
 use Rattle.record_file.specs.Text.{sizeFieldsOf}

@@ -11,7 +11,7 @@ use Rattle.arith.specs.Checks.{refused, given}
 use Rattle.arith.proofs.CheckLaws.{given-means}
 use Rattle.sheet.specs.State.{area, blocksOf}
 use Rattle.sheet.specs.Place.{placedInTurn}
-use Rattle.sheet.specs.Compose.{recordsLent}
+use Rattle.sheet_checks.specs.Checks.{recordsLent}
 use Rattle.sheet.proofs.InTurnLaws.{length-in-turn}
 use Rattle.record_text.specs.Numeral.{numeralEnd}
 use Rattle.record_text.specs.Lines.{Lined, refusedAt, read}

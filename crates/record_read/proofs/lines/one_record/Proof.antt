@@ -3,7 +3,7 @@ use borrow.Author.Needs.{needs}
 use mathlib.Core.Path.{_≡_, sym, _∙_, ap}
 use Prim.Native.Nat.{ℕ}
 use lib.ListN.{drop}
-use Rattle.sheet.specs.Meaning.{recordRefusal}
+use Rattle.record_checks.specs.Meaning.{recordRefusal}
 use Rattle.record_text.specs.declared.cursor.RecordFields.{RecordFields}
 use Rattle.record_text.specs.Parsed.{found}
 use Rattle.record_text.specs.Line.{recordLine}

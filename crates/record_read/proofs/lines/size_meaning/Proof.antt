@@ -2,7 +2,7 @@
 use borrow.Author.Needs.{needs}
 use mathlib.Core.Path.{_≡_, sym, _∙_}
 use borrow.Author.Tests.{not-true, not-false, le-leb, lt-leb}
-use Rattle.sheet.specs.State.{newRefusal}
+use Rattle.sheet_checks.specs.Checks.{newRefusal}
 use Rattle.record_read.proofs.ReadLaws.{size-sides, size-rest}
 use Rattle.record_read.proofs.lines.size_meaning.Statement.{statement}
 use Rattle.record_read.proofs.lines.size_meaning.Tie as tie

@@ -1,7 +1,7 @@
 -- `texture_ok` meets its contract, case by case.
 use borrow.Author.Needs.{needs}
 use borrow.Author.Tests.{eq-eqb, ne-eqb}
-use Rattle.sheet.proofs.GridLaws.{area-fits}
+use Rattle.sheet_blocks.proofs.GridLaws.{area-fits}
 use Rattle.record_read.proofs.lines.texture_ok.Statement.{statement}
 use Rattle.record_read.proofs.lines.texture_ok.Tie as tie
 

@@ -5,11 +5,11 @@ use mir.Syntax.{w32}
 use mir.Val.{SFits, toZ, ofZ}
 use mir.ValLaws.{toZ-ofZ}
 use Rattle.choice.specs.Record.{Record}
-use Rattle.sheet.specs.Meaning.{recordOf}
+use Rattle.record_checks.specs.Meaning.{recordOf}
 use Rattle.sheet.specs.Place.{Material, materialOf, placeAnswer, placeAfter}
 use Rattle.sheet.specs.Told.{placeTold}
 use Rattle.sheet.proofs.PlaceLaws.{place-accepted}
-use Rattle.sheet.proofs.RefusalLaws.{given-same, given-never}
+use Rattle.record_checks.proofs.RefusalLaws.{given-same, given-never}
 use Rattle.record_file.specs.Text.{meant}
 use Rattle.record_read.proofs.reading.place_one.Statement.{statement}
 use Rattle.record_read.proofs.reading.place_one.Tie as tie

@@ -5,7 +5,7 @@ use Prim.Native.Nat.{ℕ}
 use mathlib.Core.Bool.{true}
 use borrow.Author.Tests.{not-true, not-false}
 use lib.ListN.{length}
-use Rattle.sheet.specs.Compose.{recordsLent}
+use Rattle.sheet_checks.specs.Checks.{recordsLent}
 use Rattle.record_text.specs.Lines.{Lined}
 use Rattle.record_text.specs.Told.{remaining}
 use Rattle.record_file.specs.Reading.{File, Aids, aidsOf, fileLines, readLengthsOk, readFile}

@@ -6,7 +6,7 @@ use native.Mathlib.Nat.{le-trans, mul-le-mul}
 use native.Mathlib.Omega.{arith}
 use lib.ListN.{length, getD, take}
 use Rattle.choice.specs.Record.{Record}
-use Rattle.sheet.specs.Compose.{recordsLent}
+use Rattle.sheet_checks.specs.Checks.{recordsLent}
 use Rattle.sheet.specs.State.{stateOf, after}
 use Rattle.sheet.specs.Place.{materialOf, textured, placeRefusal}
 use Rattle.record_text.specs.Told.{remaining}

@@ -3,7 +3,7 @@ use borrow.Author.Needs.{needs}
 use Prim.Native.Nat.{ℕ}
 use mathlib.Core.Path.{_≡_, sym, _∙_, ap, subst}
 use lib.ListN.{length}
-use Rattle.sheet.specs.Compose.{recordsLent}
+use Rattle.sheet_checks.specs.Checks.{recordsLent}
 use Rattle.record_print.specs.Put.{Written}
 use Rattle.record_file.specs.Text.{fileText, recordAt, recordsAt}
 use Rattle.record_file.specs.Writing.{Source, sourceOf, firstTo, writeLengthsOk, writtenRefusal, writeRefusal}

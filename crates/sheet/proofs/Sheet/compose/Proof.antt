@@ -5,9 +5,10 @@ use mathlib.Core.Path.{_≡_, refl, sym, ap, _∙_}
 use Prim.Native.Nat.{ℕ}
 use lib.ListN.{length}
 use Rattle.choice.specs.Record.{Record}
+use Rattle.sheet_checks.specs.Checks.{recordsLent}
 use Rattle.sheet.specs.State.{openRefusal}
 use Rattle.sheet.specs.Place.{materialOf}
-use Rattle.sheet.specs.Compose.{Task, taskOf, recordsLent}
+use Rattle.sheet.specs.Compose.{Task, taskOf}
 use Rattle.sheet.proofs.StateLaws.{Opened, opened}
 use Rattle.sheet.proofs.EndLaws.{lengthsHold, compose-kept, compose-passed, compose-ready, told-refused, samples-refused, field-refused, told-by, samples-by, field-by}
 use Rattle.sheet.proofs.Sheet.compose.Statement.{statement}

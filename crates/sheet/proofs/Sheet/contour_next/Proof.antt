@@ -10,11 +10,11 @@ use Rattle.pattern.proofs.SizeLaws.{square-64}
 use Rattle.arith.specs.Checks.{given}
 use Rattle.pattern.specs.Contour.{contourOf}
 use Rattle.pattern.specs.Answer.{contourAnswer}
-use Rattle.sheet.specs.Samples.{cut}
+use Rattle.sheet_blocks.specs.Samples.{cut}
 use Rattle.sheet.specs.State.{nextX, nextY}
 use Rattle.pattern.specs.Told.{contourTold}
 use Rattle.sheet.proofs.CallLaws.{contour-given}
-use Rattle.sheet.proofs.RefusalLaws.{given-same, given-never}
+use Rattle.record_checks.proofs.RefusalLaws.{given-same, given-never}
 use Rattle.sheet.proofs.Sheet.contour_next.Statement.{statement}
 use Rattle.sheet.proofs.Sheet.contour_next.Tie as tie
 

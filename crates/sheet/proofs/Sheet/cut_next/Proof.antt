@@ -1,30 +1,17 @@
 -- `cut_next` meets its contract: the next block lies inside the sheet.
-use borrow.Author.Needs.{needs}
-use Rattle.sheet.proofs.StateLaws.{next-inside}
+use Rattle.sheet_blocks.proofs.AnswerLaws.{cut-first}
+use Rattle.sheet.proofs.StateLaws.{next-lies}
 use Rattle.sheet.proofs.Sheet.cut_next.Statement.{statement}
 use Rattle.sheet.proofs.Sheet.cut_next.Tie as tie
 
-cast-cut-at : tie.Need-cast-cut-at
-cast-cut-at c = search needs
-
-cast-cut-at-2 : tie.Need-cast-cut-at-2
-cast-cut-at-2 c = search needs
-
-next-x-requires : tie.Need-next-x-requires
-next-x-requires c κs = search needs
-
-next-y-requires : tie.Need-next-y-requires
-next-y-requires c κs = search needs
-
-cut-at-requires : tie.Need-cut-at-requires
-cut-at-requires c κs =
-    let d = c .before .before .before .before .before in
-    (next-inside (d .args .self) (d .pre .0) (d .pre .1) (c .before .next-x .ensures) (c .next-y .ensures), d .pre .0 .high)
+cut-requires : tie.Need-cut-requires
+cut-requires c κs = tt
 
 returns : tie.Need-returns
-returns c = rw (← c .before .before .next-x .ensures, ← c .before .next-y .ensures) (c .cut-at .ensures)
+returns c =
+    let d = c .before .before in
+    let a = d .args in
+    rw (c .cut .ensures) (cut-first (a .self .n) (a .self .width) (a .self .placed) (a .samples .now) (next-lies (a .self) (d .pre .0) (d .pre .1)))
 
 pub cut-next-spec : {M : Type 1} → statement M
-cut-next-spec =
-    tie.close
-    (tie.spec cast-cut-at cast-cut-at-2 next-x-requires next-y-requires cut-at-requires returns)
+cut-next-spec = tie.close (tie.spec cut-requires returns)

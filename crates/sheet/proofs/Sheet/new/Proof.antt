@@ -1,35 +1,27 @@
--- `Sheet::new` meets its contract: 1, then 8, then the empty state.
-use mathlib.Core.Path.{_≡_, sym, _∙_}
-use mathlib.Core.Bool.{true}
-use native.Mathlib.Omega.{arith}
-use borrow.Author.Tests.{not-true, not-false}
-use Rattle.pattern.specs.Size.{sizeOk}
-use Rattle.pattern.proofs.SizeLaws.{size-bounds}
-use Rattle.sheet.specs.State.{newRefusal, newAnswer}
+-- `Sheet::new` meets its contract: the refusal of size and sides, or the empty state.
+use mathlib.Core.Path.{sym, ap, _∙_}
+use Rattle.arith.specs.Checks.{refused}
+use Rattle.arith.proofs.CheckLaws.{answer-refused, answer-given}
+use Rattle.sheet_checks.specs.Checks.{newRefusal}
+use Rattle.sheet.specs.State.{stateOf, newAnswer}
 use Rattle.sheet.proofs.Sheet.new.Statement.{statement}
 use Rattle.sheet.proofs.Sheet.new.Tie as tie
 
-size-ok-requires : tie.Need-size-ok-requires
-size-ok-requires c κs = tt
+new-refusal-requires : tie.Need-new-refusal-requires
+new-refusal-requires c κs = tt
 
 returns : tie.Need-returns
-unfolding newRefusal newAnswer
-returns c = rw (sym (c .before .size-ok .ensures) ∙ not-true _ (c .if1 .taken))
-
--- past the first check
-good : (c : tie.Else1) → sizeOk (c .before .before .args .n) ≡ true
-good c = sym (c .before .size-ok .ensures) ∙ not-false _ (c .if1 .left)
-
-sides-ok-requires : tie.Need-sides-ok-requires
-sides-ok-requires c κs = omega (arith, size-bounds (c .before .before .args .n) (good c))
+unfolding newAnswer
+returns c =
+    let a = c .before .before .args in
+    let e = c .before .new-refusal .ensures in
+    ap refused e ∙ answer-refused (newRefusal (a .n) (a .width) (a .height)) (stateOf (a .n) (a .width) (a .height) 0) (λ z. c .if1 .taken (e ∙ z))
 
 returns-2 : tie.Need-returns-2
-unfolding newRefusal newAnswer
-returns-2 c = rw (good (c .before .before), sym (c .before .sides-ok .ensures) ∙ not-true _ (c .if2 .taken))
-
-returns-3 : tie.Need-returns-3
-unfolding newRefusal newAnswer
-returns-3 c = rw (good (c .before .before), sym (c .before .sides-ok .ensures) ∙ not-false _ (c .if2 .left))
+unfolding newAnswer
+returns-2 c =
+    let a = c .before .before .args in
+    answer-given (newRefusal (a .n) (a .width) (a .height)) (stateOf (a .n) (a .width) (a .height) 0) (sym (c .before .new-refusal .ensures) ∙ c .if1 .left)
 
 pub new-spec : {M : Type 1} → statement M
-new-spec = tie.close (tie.spec size-ok-requires returns sides-ok-requires returns-2 returns-3)
+new-spec = tie.close (tie.spec new-refusal-requires returns returns-2)

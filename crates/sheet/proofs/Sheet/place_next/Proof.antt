@@ -9,7 +9,7 @@ use Rattle.choice.specs.Answer.{recordTold}
 use Rattle.sheet.specs.State.{after}
 use Rattle.sheet.specs.Place.{materialOf, placedSamples}
 use Rattle.sheet.specs.Told.{placeTold}
-use Rattle.sheet.proofs.RefusalLaws.{given-same, given-never}
+use Rattle.record_checks.proofs.RefusalLaws.{given-same, given-never}
 use Rattle.sheet.proofs.PlaceLaws.{place-accepted}
 use Rattle.sheet.proofs.Sheet.place_next.Statement.{statement}
 use Rattle.sheet.proofs.Sheet.place_next.Tie as tie

@@ -5,7 +5,7 @@ use mathlib.Core.Path.{_≡_, _∙_, ap}
 use mathlib.Core.List.{[]}
 use lib.IntN.{ℤ, pos}
 use lib.ListN.{length, replicate, length-replicate}
-use Rattle.sheet.specs.Compose.{recordsLent}
+use Rattle.sheet_checks.specs.Checks.{recordsLent}
 use Rattle.record_text.specs.Lines.{Lined}
 use Rattle.record_file.specs.Reading.{File, Aids, aidsOf, readFile}
 use Rattle.record_read.specs.Back.{samplesBack, fileBack, leaving}

@@ -1,6 +1,6 @@
 -- `area` is safe: the product of two numbers of 32 bits fits 64.
 use borrow.Author.Needs.{needs}
-use Rattle.sheet.proofs.GridLaws.{area-fits}
+use Rattle.sheet_blocks.proofs.GridLaws.{area-fits}
 use Rattle.sheet_vectors.proofs.sheets.area.Statement.{statement}
 use Rattle.sheet_vectors.proofs.sheets.area.Tie as tie
 

@@ -1,0 +1,3 @@
+-- Laws of the definitions.
+pub mod RefusalLaws
+pub mod MeaningLaws

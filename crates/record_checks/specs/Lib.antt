@@ -1,0 +1,2 @@
+-- Document 01, "Sheet": the checks of a record.
+pub mod Meaning

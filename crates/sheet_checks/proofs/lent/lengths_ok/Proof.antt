@@ -1,0 +1,33 @@
+-- `lengths_ok` meets its contract, test by test; the product of two numbers of 32 bits fits 64.
+use borrow.Author.Needs.{needs}
+use mathlib.Core.Path.{sym, _∙_}
+use borrow.Author.Tests.{eq-eqb, ne-eqb, not-true, not-false}
+use Rattle.sheet_blocks.proofs.GridLaws.{area-fits}
+use Rattle.sheet_checks.specs.Checks.{lengthsOkBy}
+use Rattle.sheet_checks.proofs.lent.lengths_ok.Statement.{statement}
+use Rattle.sheet_checks.proofs.lent.lengths_ok.Tie as tie
+
+mul-area : tie.Need-mul-area
+mul-area c = record { fits = area-fits (search needs) (search needs) }
+
+returns : tie.Need-returns
+unfolding lengthsOkBy
+returns c = rw (ne-eqb _ _ (c .if1 .taken))
+
+texture-ok-requires : tie.Need-texture-ok-requires
+texture-ok-requires c κs = tt
+
+returns-2 : tie.Need-returns-2
+unfolding lengthsOkBy
+returns-2 c = rw (eq-eqb _ _ (c .before .before .if1 .left), sym (c .before .texture-ok .ensures) ∙ not-true _ (c .if2 .taken))
+
+count-ok-requires : tie.Need-count-ok-requires
+count-ok-requires c κs = tt
+
+returns-3 : tie.Need-returns-3
+unfolding lengthsOkBy
+returns-3 c = rw (eq-eqb _ _ (c .before .before .before .if1 .left), sym (c .before .before .texture-ok .ensures) ∙ not-false _ (c .before .if2 .left)) (c .count-ok .ensures)
+
+pub lengths-ok-spec : {M : Type 1} → statement M
+lengths-ok-spec =
+    tie.close (tie.spec mul-area returns texture-ok-requires returns-2 count-ok-requires returns-3)

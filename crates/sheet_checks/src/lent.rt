@@ -1,0 +1,42 @@
+// What is checked of the lengths of what is lent.
+ghost use mathlib.Core.Path.{_≡_};
+ghost use mathlib.Core.Bool.{_||_};
+ghost use lib.Dec.{eqb};
+ghost use Rattle.sheet_checks.specs.Checks.{lengthsOkBy, recordsLent};
+use pattern::count_ok;
+use pattern::lesser;
+
+// Whether the texture is none, or of as many samples as the sheet.
+fn texture_ok(texture: usize, area: usize) -> bool
+    ensures { λ r. ⌜ r ≡ eqb texture 0 || eqb texture area ⌝ }
+{
+    texture == 0 || texture == area
+}
+
+// Whether the lent samples, words, count and texture fit a sheet of width by height samples.
+pub fn lengths_ok(
+    width: u32,
+    height: u32,
+    samples: usize,
+    words: usize,
+    count: usize,
+    texture: usize,
+) -> bool
+    ensures { λ r. ⌜ r ≡ lengthsOkBy width height samples words count texture ⌝ }
+{
+    let area = width as usize * height as usize;
+    if samples != area {
+        return false;
+    }
+    if !texture_ok(texture, area) {
+        return false;
+    }
+    count_ok(words, count)
+}
+
+// As many records are lent as the shortest of the four slices has.
+pub fn records_lent(kinds: usize, entries: usize, offs0: usize, offs1: usize) -> usize
+    ensures { λ r. ⌜ r ≡ recordsLent kinds entries offs0 offs1 ⌝ }
+{
+    lesser(kinds, lesser(entries, lesser(offs0, offs1)))
+}
