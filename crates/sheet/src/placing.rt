@@ -91,8 +91,9 @@ impl Sheet {
         ensures left { λ r. ⌜ now (samples .exit) ≡ written (self .n) (self .width) (nextX self) (nextY self) (predicted (self .n) word (neighbours (self .n) (self .width) (self .placed) (now (samples .entry))) (now (table .entry)) off0 off1) (now (samples .entry)) ⌝ }
     {
         let block = self.predict_next(samples, word, table, off0, off1);
-        sheet_blocks::put(samples, self.n, self.width, self.placed, &block);
-        self.placed = self.placed + 1;
+        let k = self.placed;
+        sheet_blocks::put(samples, self.n, self.width, k, &block);
+        self.placed = k + 1;
         self
     }
 

@@ -18,7 +18,7 @@ put-requires c κs = tt
 
 add-self : tie.Need-add-self
 add-self c =
-    let d = c .before .before .before .before .before .before .before .before .before .before in
+    let d = c .before .before .before .before .before .before .before .before .before in
     omega (arith, d .pre .0 .missing, blocks-few (d .args .self .n) (d .args .self .width) (d .args .self .height), area-few (d .args .self) (d .pre .0))
 
 same-length : tie.Need-same-length
@@ -26,7 +26,7 @@ same-length c = search needs
 
 returns : tie.Need-returns
 returns c =
-    let w = c .before .before .before in
+    let w = c .before .before in
     let p = w .before .before .before in
     let d = p .before .before .before .before in
     let a = d .args in
