@@ -1,28 +1,28 @@
 -- What `read` answers and leaves, from what its parts do. Assumes nothing.
-use Prim.Native.Nat.{ℕ, _+_, _≤_}
+use Prim.Native.Nat.{ℕ, _+_, _*_, _≤_, _<_}
 use mathlib.Core.Path.{_≡_, refl, sym, _∙_, ap}
 use mathlib.Core.Bool.{true, false}
-use mathlib.Core.List.{List}
+use mathlib.Core.List.{List, _++_}
+use native.Mathlib.Nat.{le-trans, mul-le-mul}
 use native.Mathlib.Omega.{arith}
+use lib.IntN.{ℤ}
 use lib.ListN.{length, take, drop, replicate, length-replicate}
 use lib.Seq.{sets, sets-eq, length-sets, take-at}
-use Rattle.sheet.specs.State.{stateOf, blocksOf}
-use Rattle.record_text.specs.declared.cursor.Cursor.{Cursor}
+use Rattle.choice.specs.Record.{Record}
+use Rattle.sheet.specs.State.{after}
+use Rattle.sheet.specs.Place.{materialOf, placeRefusal, placedInTurn}
+use Rattle.sheet.specs.Compose.{recordsLent}
+use Rattle.record_text.specs.Lines.{Lined, refusedAt, read}
+use Rattle.record_file.specs.Text.{meant, recordAt}
+use Rattle.record_file.specs.Reading.{File, Aids, blocksIn, fileLines, readLengthsOk, ReadLengths, readFile}
+use Rattle.record_file.proofs.FileLaws.{FileSound, file-wrote}
+use Rattle.record_file.proofs.LineBounds.{Below, lineEnd, blocks-few}
+use Rattle.record_lines.specs.declared.whole.LinesBack.{LinesBack}
+use Rattle.record_lines.specs.Stored.{Slices, putRecords}
+use Rattle.record_lines.specs.Back.{linesBack, recordsBack, leaving}
 use Rattle.record_read.specs.declared.reading.FileBack.{FileBack}
-use Rattle.record_text.specs.declared.cursor.SizeFields.{SizeFields}
-use Rattle.record_text.specs.declared.cursor.RecordFields.{RecordFields}
-use Rattle.record_text.specs.Lines.{Lined, refusedAt, read, linesThen}
-use Rattle.record_text.proofs.LinesLaws.{refused-read}
-use Rattle.record_read.specs.declared.loops.LinesRead.{LinesRead}
-use Rattle.record_read.specs.declared.loops.LinesRead.the-variants as linesRead
-use Rattle.record_file.specs.Reading.{File, fileOf, Aids, frontLines, restLines, fileLines, readLengthsOk, readFile, RestReady}
-use Rattle.record_read.specs.Stored.{linesTold, only, sizeOnly, TableIf, Slices, putRecords, putOr}
-use Rattle.record_read.specs.Back.{fileBack, backBy, samplesBack, recordsBack, leaving}
-use Rattle.record_file.proofs.MeaningLaws.{sound-values}
-use Rattle.record_file.proofs.FileLaws.{front-parts, size-small}
-use Rattle.record_file.proofs.RoundTrip.{parts-table}
-use Rattle.record_read.proofs.PartLaws.{only-refused}
-use Rattle.record_read.proofs.RestLaws.{OnlyRead, only-read}
+use Rattle.record_read.specs.Back.{recordIn, samplesBack, fileBack, sheetOf, tableOf, backOf}
+use Rattle.record_read.proofs.RestLaws.{record-back, lent-same, in-turn-ext, headerOf, header-small, file-accepted}
 
 -- ---- the lengths
 
@@ -35,122 +35,89 @@ module _ (A : Aids) (samples records : ℕ) (s : List ℕ) where
   unfolding readFile
   read-passed e = rw e
 
--- ---- the lines before the records
+-- ---- a refusal: the answer has its number and line, and nothing is altered
 
-abbrev frontKind : {B : Type 0} → Lined SizeFields → Lined B
-frontKind (refusedAt n k) = refusedAt n k
-frontKind (read z s) = refusedAt 0 0
-
-front-no : (x : Lined (SizeFields × List ℕ)) {n k : ℕ} → refusedAt n k ≡ sizeOnly x → x ≡ refusedAt n k
-front-no (refusedAt i j) e = ap frontKind (sym e)
-front-no (read f s) e = refused-read e
-
-pub file-no : (A : Aids) (s : List ℕ) {n k : ℕ} → refusedAt n k ≡ sizeOnly (frontLines (length (A .texture)) s) → fileLines A s ≡ refusedAt n k
-unfolding fileLines
-file-no A s e = rw (front-no (frontLines (length (A .texture)) s) e)
-
--- what they hold where they are read, with the array that the table was stored in
-pub record FrontRead (A : Aids) (s : List ℕ) (z : SizeFields) (u array : List ℕ) : Type 0 where
-  pub table : List ℕ
-  pub is : frontLines (length (A .texture)) s ≡ read (z, table) u
-  pub count : length table ≡ z .values
-  pub held : array ≡ sets (replicate 256 0) 0 table
-  pub first : take (z .values) array ≡ table
-  pub ready : RestReady z array (length (A .texture))
-
-front-yes :
-    (x : Lined (SizeFields × List ℕ)) (z : SizeFields) (u array : List ℕ) (put : List ℕ → List ℕ) → read z u ≡ sizeOnly x → TableIf put x array
-    → OnlyRead x u × ((l : List ℕ) → x ≡ read (z, l) u → array ≡ put l)
-front-yes (refusedAt n k) z u array put e h = refused-read (sym e)
-front-yes (read f s) z u array put e h =
-    let p : u ≡ s = cc in
-    (record { value = f; is = ap (read f) (sym p) }, λ l q. h ∙ ap put (second q))
-  where
-    second : {f : SizeFields × List ℕ} {l s t : List ℕ} → read f s ≡ read (z, l) t → f .1 ≡ l
-    second {f} {l} q = ap (λ (g : SizeFields × List ℕ). g .1) (let e : f ≡ (z, l) = cc in e)
-
-pub front-is :
-    (A : Aids) (s : List ℕ) (z : SizeFields) (u array : List ℕ) → read z u ≡ sizeOnly (frontLines (length (A .texture)) s)
-    → TableIf (sets (replicate 256 0) 0) (frontLines (length (A .texture)) s) array → FrontRead A s z u array
-front-is A s z u array e h =
-    let t = length (A .texture) in
-    let y = front-yes (frontLines t s) z u array (sets (replicate 256 0) 0) e h in
-    let f = y .0 .value in
-    let q : read z u ≡ read (f .0) u = e ∙ ap sizeOnly (y .0 .is) in
-    let ez : f .0 ≡ z = sym (size-same q) in
-    let is : frontLines t s ≡ read (z, f .1) u = y .0 .is ∙ ap (λ (g : SizeFields). read (g, f .1) u) ez in
-    let p = front-parts t s z (f .1) u is in
-    let held : array ≡ sets (replicate 256 0) 0 (f .1) = y .1 (f .1) is in
-    let small = size-small t z (p .size) in
-    let c = p .count in
-    let zeros : List ℕ = replicate 256 0 in
-    let room : 0 + length (f .1) ≤ length zeros = omega (arith, length-replicate {A = ℕ} 256 0, small .values) in
-    let first : take (z .values) array ≡ f .1 =
-    ap (take (z .values)) (held ∙ sets-eq (f .1) (replicate 256 0) 0 room) ∙ take-at (f .1) (drop (0 + length (f .1)) (replicate 256 0)) (z .values) c in
-    let v = sound-values (f .1) 0 (p .each) in
-    record {
-      table = f .1;
-      is = is;
-      count = c;
-      held = held;
-      first = first;
-      ready = record {
-        size = p .size;
-        room = omega (arith, ap length held, length-sets (replicate 256 0) 0 (f .1), length-replicate {A = ℕ} 256 0, small .values);
-        sound = rw first (parts-table (f .1) (omega (arith, small .some)) (omega (arith, small .values)) (v .0) (v .1));
-      };
-    }
-  where
-    size-same : {a b : SizeFields} {s t : List ℕ} → read a s ≡ read b t → a ≡ b
-    size-same e = cc
-
--- ---- the rest
-
--- the answer, case by case
-pub told-refused :
-    {last : LinesRead} (z : SizeFields) (array : List ℕ) {n k : ℕ} {r : FileBack} → last ≡ linesRead.Refused n k → r ≡ fileBack (refusedAt n k) → r ≡ backBy last z array
-told-refused z array e q = rw e q
-
-pub told-done :
-    {last : LinesRead} {c : Cursor} (z : SizeFields) (array : List ℕ) {k : ℕ} → last ≡ linesRead.Done c → k ≡ blocksOf (stateOf (z .n) (z .width) (z .height) 0)
-    → _≡_ {A = FileBack} (record { refusal = 0; line = 0; sheet = stateOf (z .n) (z .width) (z .height) k; values = z .values; table = array }) (backBy last z array)
-told-done z array e q = rw (e, q)
-
-module _ (A : Aids) (s : List ℕ) (z : SizeFields) (u array : List ℕ) (f : FrontRead A s z u array) where
-  abbrev whole : Lined (List RecordFields) → Lined File
-  whole x = linesThen x (λ records v. read (fileOf (z .n) (z .width) (z .height) (f .table) records) v)
-
-  pub file-is : fileLines A s ≡ whole (restLines A z u)
-  unfolding fileLines
-  file-is = rw (f .is)
-
-  pub back-is : (bytes : List ℕ) (last : LinesRead) → linesTold bytes last ≡ only (restLines A z u) → backBy last z array ≡ fileBack (fileLines A s)
-  back-is bytes last e = go (restLines A z u) last e ∙ ap fileBack (sym file-is)
-    where
-      go : (x : Lined (List RecordFields)) (last : LinesRead) → linesTold bytes last ≡ only x → backBy last z array ≡ fileBack (whole x)
-      go x (linesRead.Refused n k) e = rw (only-refused x e)
-      go x (linesRead.Done c) e = let r = only-read x _ e in rw (r .is, ← f .count, ← f .held)
-
-  pub kept-is : (old : Slices) → putOr (putRecords old) (restLines A z u) old ≡ leaving (fileLines A s) (λ F. recordsBack F old) old
-  kept-is old = go (restLines A z u) ∙ ap (λ (x : Lined File). leaving x (λ F. recordsBack F old) old) (sym file-is)
-    where
-      go : (x : Lined (List RecordFields)) → putOr (putRecords old) x old ≡ leaving (whole x) (λ F. recordsBack F old) old
-      go (refusedAt n k) = refl
-      go (read l v) = refl
-
-  pub drawn-is :
-      (old : List ℕ)
-      → putOr (λ l. samplesBack A (fileOf (z .n) (z .width) (z .height) (take (z .values) array) l) old) (restLines A z u) old
-      ≡ leaving (fileLines A s) (λ F. samplesBack A F old) old
-  drawn-is old = go (restLines A z u) ∙ ap (λ (x : Lined File). leaving x (λ F. samplesBack A F old) old) (sym file-is)
-    where
-      go : (x : Lined (List RecordFields))
-          → putOr (λ l. samplesBack A (fileOf (z .n) (z .width) (z .height) (take (z .values) array) l) old) x old ≡ leaving (whole x) (λ F. samplesBack A F old) old
-      go (refusedAt n k) = refl
-      go (read l v) = ap (λ (t : List ℕ). samplesBack A (fileOf (z .n) (z .width) (z .height) t l) old) (f .first)
-
--- a refusal: the answer has its number and line, and nothing is altered
 pub all-refused :
     (A : Aids) (old : Slices) (samples : List ℕ) {x : Lined File} {n k : ℕ} {r : FileBack} → x ≡ refusedAt n k → r ≡ fileBack (refusedAt n k)
     → (r ≡ fileBack x) × ((old ≡ leaving x (λ F. recordsBack F old) old) × (samples ≡ leaving x (λ F. samplesBack A F samples) samples))
 all-refused A old samples e q = rw e (q, (refl, refl))
+
+-- a line that the lines' answer refuses
+pub lines-refused : (x : Lined File) {b : LinesBack} → b ≡ linesBack x → (b .refusal ≡ 0 → ⊥) → x ≡ refusedAt (b .refusal) (b .line)
+lines-refused (refusedAt n k) e h = rw e
+lines-refused (read F s) e h = absurd (h (ap (λ (y : LinesBack). y .refusal) e))
+
+-- ---- where nothing is refused
+
+-- the file that was read, with the lines' answer and the lent records before and after
+pub record Held (A : Aids) (s : List ℕ) (b : LinesBack) (old new : Slices) : Type 0 where
+  pub file : File
+  pub rest : List ℕ
+  pub is : fileLines A s ≡ read file rest
+  pub sound : FileSound A file
+  pub told : b ≡ linesBack (read file rest)
+  pub stored : new ≡ recordsBack file old
+
+pub held :
+    (A : Aids) (s : List ℕ) (x : Lined File) {b : LinesBack} (old : Slices) {new : Slices} → fileLines A s ≡ x → Below lineEnd x → b ≡ linesBack x
+    → new ≡ leaving x (λ F. recordsBack F old) old → b .refusal ≡ 0 → Held A s b old new
+held A s (refusedAt n k) old p h e q z = absurd (omega (arith, h .0, ap (λ (y : LinesBack). y .refusal) e, z))
+held A s (read F u) old p h e q z = record { file = F; rest = u; is = p; sound = file-wrote A F s u p .sound; told = e; stored = q }
+
+-- the first values of the array are the table
+table-first : (t : List ℕ) → length t ≤ 256 → take (length t) (sets (replicate 256 0) 0 t) ≡ t
+table-first t h =
+    ap (take (length t)) (sets-eq t (replicate 256 0) 0 (omega (arith, length-replicate {A = ℕ} 256 0)))
+    ∙ take-at t (drop (0 + length t) (replicate 256 0)) (length t) refl
+
+module _ (A : Aids) (s : List ℕ) (b : LinesBack) (old : Slices) {k e : List ℕ} {a o : List ℤ} (h : Held A s b old (k, (e, (a, o)))) where
+  -- the table and the samples have room
+  pub fits : {samples : ℕ} → 16384 ≤ samples → (b .size .values ≤ length (b .table)) × (b .size .width * b .size .height ≤ samples) × (b .size .width ≤ 128) × (b .size .height ≤ 128)
+  fits l =
+      let F = h .file in
+      let z = header-small A F (h .sound) in
+      let area = mul-le-mul {n₁ = F .width} {m₁ = F .height} {n₂ = 128} {m₂ = 128} (z .width) (z .height) in
+      let t : length (F .table) ≤ length (sets (replicate 256 0) 0 (F .table)) = omega (arith, length-sets (replicate 256 0) 0 (F .table), length-replicate {A = ℕ} 256 0, z .values) in
+      rw (h .told) (t, le-trans area l, z .width, z .height)
+
+  pub blocks-fit : blocksIn (b .size) ≤ 1024
+  blocks-fit = rw (h .told) (blocks-few (length (A .texture)) (headerOf (h .file)) (h .sound .size))
+
+  as-read : tableOf b ≡ h .file .table
+  as-read = ap tableOf (h .told) ∙ table-first (h .file .table) (header-small A (h .file) (h .sound) .values)
+
+  all-blocks : blocksIn (b .size) ≡ length (h .file .records)
+  all-blocks = ap (λ (y : LinesBack). blocksIn (y .size)) (h .told) ∙ sym (h .sound .whole)
+
+  module _ (room : 1024 ≤ recordsLent (length (old .0)) (length (old .1 .0)) (length (old .1 .1 .0)) (length (old .1 .1 .1))) where
+    -- there is room for every record
+    pub blocks-room : blocksIn (b .size) ≤ recordsLent (length k) (length e) (length a) (length o)
+    blocks-room = rw (lent-same (h .file .records) old (h .stored)) (le-trans blocks-fit room)
+
+    -- the record at each place
+    record-held : (i : ℕ) → i < blocksIn (b .size) → meant (recordAt k e a o i) ≡ recordIn (h .file) i
+    record-held i l = ap meant (record-back (h .file .records) old (h .stored) (rw (← all-blocks) (le-trans blocks-fit room)) i (rw (← all-blocks) l))
+
+    -- each is accepted for its block
+    pub held-accepted :
+        A .count ≤ length (A .list) → A .count ≤ 9999 → (i : ℕ) → i < blocksIn (b .size)
+        → placeRefusal (after i (sheetOf b)) (b .size .width * b .size .height) (materialOf (A .list) (A .count) (tableOf b) (A .texture)) (meant (recordAt k e a o i)) ≡ 0
+    held-accepted inside few i l =
+        let p = file-accepted A (h .file) (h .sound) inside few i (rw (h .told) at l) in
+        rw (as-read, record-held i l) (rw (h .told) p)
+
+    -- the samples afterwards
+    pub held-drawn :
+        (t : List ℕ) {new : List ℕ}
+        → new ≡ placedInTurn (sheetOf b) (materialOf (A .list) (A .count) (tableOf b) (A .texture)) (λ i. meant (recordAt k e a o i)) (take (b .size .width * b .size .height) t) (blocksIn (b .size)) ++ drop (b .size .width * b .size .height) t
+        → new ≡ samplesBack A (h .file) t
+    unfolding samplesBack
+    held-drawn t {new} q =
+        q
+        ∙ ap (λ (l : List ℕ). l ++ drop (b .size .width * b .size .height) t)
+        (in-turn-ext (sheetOf b) (materialOf (A .list) (A .count) (tableOf b) (A .texture)) (λ i. meant (recordAt k e a o i)) (recordIn (h .file)) (take (b .size .width * b .size .height) t) (blocksIn (b .size)) record-held)
+        ∙ rw as-read (rw (h .told) refl)
+
+  -- the answer
+  pub held-back : backOf b ≡ fileBack (read (h .file) (h .rest))
+  held-back = ap backOf (h .told)

@@ -15,9 +15,10 @@ use Rattle.record_file.specs.Text.{meant, recordAt}
 use Rattle.record_file.specs.Reading.{File, Aids, readFile}
 use Rattle.record_file.specs.Writing.{Source, sourceOf, spaceFor, writeAnswer, writeAfter}
 use Rattle.record_text.specs.Lines.{Lined}
+use Rattle.record_lines.specs.Stored.{Slices, putRecords}
+use Rattle.record_lines.specs.Back.{recordsBack, leaving}
 use Rattle.record_read.specs.declared.reading.FileBack.{FileBack}
-use Rattle.record_read.specs.Stored.{Slices, putRecords}
-use Rattle.record_read.specs.Back.{fileBack, recordsBack, samplesBack, leaving}
+use Rattle.record_read.specs.Back.{fileBack, samplesBack}
 
 -- what is lent to reading: samples, and records as a slice for each field
 pub record Lent : Type 0 where

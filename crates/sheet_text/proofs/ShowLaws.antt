@@ -19,7 +19,8 @@ use Rattle.record_text.specs.Put.{Written}
 use Rattle.record_text.proofs.PutLaws.{written-whole}
 use Rattle.record_read.specs.declared.reading.FileBack.{FileBack}
 use Rattle.record_file.specs.Reading.{File, Aids, readFile}
-use Rattle.record_read.specs.Back.{emptySheet, materialIn, recordIn, samplesBack, fileBack, leaving}
+use Rattle.record_lines.specs.Back.{leaving}
+use Rattle.record_read.specs.Back.{emptySheet, materialIn, recordIn, samplesBack, fileBack}
 use Rattle.sheet_text.specs.Printed.{sheetText}
 use Rattle.sheet_text.specs.Showing.{sizeIn, aidsFor, samplesIn, textBy, readWith, shownText, showSpace, showRefusal, showAnswer, showAfter}
 use Rattle.sheet_text.proofs.PrintLaws.{sheet-same}

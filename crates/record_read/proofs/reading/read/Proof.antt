@@ -1,4 +1,4 @@
--- `read` meets its contract: the lengths, the lines before the records, and the rest.
+-- `read` meets its contract: the lengths, the lines, and the samples.
 use borrow.Author.Needs.{needs}
 use mathlib.Core.Path.{_≡_, sym, _∙_, ap}
 use Prim.Native.Nat.{ℕ}
@@ -6,20 +6,24 @@ use mathlib.Core.Bool.{true}
 use borrow.Author.Tests.{not-true, not-false}
 use lib.ListN.{length}
 use Rattle.sheet.specs.Compose.{recordsLent}
-use Rattle.record_text.specs.Lines.{Lined}
-use Rattle.record_text.specs.Told.{remaining}
-use Rattle.record_file.specs.Reading.{File, Aids, aidsOf, fileLines, readLengthsOk, readFile}
-use Rattle.record_read.specs.Stored.{sizeBackTold}
-use Rattle.record_read.specs.Back.{fileBack, samplesBack, recordsBack, leaving}
+use Rattle.record_text.specs.Lines.{Lined, read}
+use Rattle.record_file.specs.Reading.{File, Aids, aidsOf, fileLines, readLengthsOk, ReadLengths, readFile}
 use Rattle.record_file.proofs.RoundTrip.{read-lengths}
-use Rattle.record_file.proofs.LineBounds.{blocks-few}
-use Rattle.record_read.proofs.BackLaws.{read-short, read-passed, file-no, FrontRead, front-is, back-is, kept-is, drawn-is, all-refused}
+use Rattle.record_file.proofs.LineBounds.{Below, lineEnd, read-below}
+use Rattle.record_lines.specs.Stored.{Slices}
+use Rattle.record_lines.specs.Back.{readLines, linesBack, recordsBack, leaving}
+use Rattle.record_lines.proofs.BackLaws.{lines-passed}
+use Rattle.record_read.specs.Back.{fileBack, samplesBack}
+use Rattle.record_read.proofs.BackLaws.{read-short, read-passed, all-refused, lines-refused, Held, held, fits, blocks-fit, blocks-room, held-accepted, held-drawn, held-back}
 use Rattle.record_read.proofs.reading.read.Statement.{statement}
 use Rattle.record_read.proofs.reading.read.Tie as tie
 
--- what the file is read with, and what reading it gives
+-- what the file is read with, the lent records, and what reading it gives
 abbrev aids : (d : tie.Start) → Aids
 aids d = aidsOf (d .args .list .now) (d .args .count) (d .args .texture .now)
+
+abbrev slices : (d : tie.Start) → Slices
+slices d = (d .args .kinds .now, (d .args .entries .now, (d .args .offs0 .now, d .args .offs1 .now)))
 
 abbrev records : (d : tie.Start) → ℕ
 records d = recordsLent (length (d .args .kinds .now)) (length (d .args .entries .now)) (length (d .args .offs0 .now)) (length (d .args .offs1 .now))
@@ -37,16 +41,28 @@ lengths c =
 right : (c : tie.Else1) → let d = c .before .before .before .before .before .before .before .before .before in readLengthsOk (length (d .args .samples .now)) (records d) (length (d .args .list .now)) (d .args .count) ≡ true
 right c = sym (lengths (c .before)) ∙ not-false _ (c .if1 .left)
 
+enough : (c : tie.Else1) → let d = c .before .before .before .before .before .before .before .before .before in ReadLengths (length (d .args .samples .now)) (records d) (length (d .args .list .now)) (d .args .count)
+enough c = let d = c .before .before .before .before .before .before .before .before .before in read-lengths (length (d .args .samples .now)) (records d) (length (d .args .list .now)) (d .args .count) (right c)
+
 passed : (c : tie.Else1) → let d = c .before .before .before .before .before .before .before .before .before in reading d ≡ fileLines (aids d) (d .args .bytes .now)
 passed c = let d = c .before .before .before .before .before .before .before .before .before in read-passed (aids d) (length (d .args .samples .now)) (records d) (d .args .bytes .now) (right c)
 
--- the lines before the records
-front : (c : tie.After-z) → let d = c .before .before .before .before .before .before .before .before .before .before .before .before .before .before in let v = c .z .given .0 in FrontRead (aids d) (d .args .bytes .now) (v .0) (remaining (d .args .bytes .now) (v .1 .0)) (c .before .before .before .read-front .last .1 .1 .0)
-front c =
-    let d = c .before .before .before .before .before .before .before .before .before .before .before .before .before .before in
-    let v = c .z .given .0 in
-    let r = c .before .before .before .read-front in
-    front-is (aids d) (d .args .bytes .now) (v .0) (remaining (d .args .bytes .now) (v .1 .0)) (r .last .1 .1 .0) (sym (ap (sizeBackTold _) (c .z .given .1)) ∙ r .ensures .0) (r .ensures .1)
+-- the lines are read as the file is
+same : (c : tie.Else1) → let d = c .before .before .before .before .before .before .before .before .before in readLines (aids d) (records d) (d .args .bytes .now) ≡ reading d
+same c = let d = c .before .before .before .before .before .before .before .before .before in lines-passed (aids d) (d .args .bytes .now) (enough c .records-lent) ∙ sym (passed c)
+
+told : (c : tie.After-read-lines) → let d = c .before .before .before .before .before .before .before .before .before .before .before .before .before .before in c .read-lines .result ≡ linesBack (reading d)
+told c = c .read-lines .ensures .0 ∙ ap linesBack (same (c .before .before .before .before .before))
+
+left : (c : tie.After-read-lines) → let d = c .before .before .before .before .before .before .before .before .before .before .before .before .before .before in let w = c .read-lines .last in _≡_ {A = Slices} (w .1 .1 .1 .1 .0, (w .1 .1 .1 .1 .1 .0, (w .1 .1 .1 .1 .1 .1 .0, w .1 .1 .1 .1 .1 .1 .1 .0))) (leaving (reading d) (λ F. recordsBack F (slices d)) (slices d))
+left c = let d = c .before .before .before .before .before .before .before .before .before .before .before .before .before .before in c .read-lines .ensures .1 ∙ ap (λ (x : Lined File). leaving x (λ F. recordsBack F (slices d)) (slices d)) (same (c .before .before .before .before .before))
+
+-- what was read where nothing is refused
+whole : (c : tie.Else2) → let d = c .before .before .before .before .before .before .before .before .before .before .before .before .before .before .before .before .before .before .before .before .before .before in let w = c .before .before .before .before .before .before .before .before .read-lines in Held (aids d) (d .args .bytes .now) (w .result) (slices d) (w .last .1 .1 .1 .1 .0, (w .last .1 .1 .1 .1 .1 .0, (w .last .1 .1 .1 .1 .1 .1 .0, w .last .1 .1 .1 .1 .1 .1 .1 .0)))
+whole c =
+    let d = c .before .before .before .before .before .before .before .before .before .before .before .before .before .before .before .before .before .before .before .before .before .before in
+    let w = c .before .before .before .before .before .before .before .before in
+    held (aids d) (d .args .bytes .now) (reading d) (slices d) (sym (passed (w .before .before .before .before .before))) (read-below (aids d) (length (d .args .samples .now)) (records d) (d .args .bytes .now)) (told w) (left w) (c .if2 .left)
 
 records-lent-requires : tie.Need-records-lent-requires
 records-lent-requires c κs = search needs
@@ -60,45 +76,14 @@ refused-at-requires c κs = search needs
 returns : tie.Need-returns
 returns c =
     let d = c .before .before .before .before .before .before .before .before .before .before in
-    all-refused (aids d) (d .args .kinds .now, (d .args .entries .now, (d .args .offs0 .now, d .args .offs1 .now))) (d .args .samples .now)
+    all-refused (aids d) (slices d) (d .args .samples .now)
     (read-short (aids d) (length (d .args .samples .now)) (records d) (d .args .bytes .now) (sym (lengths (c .before .before)) ∙ not-true _ (c .before .if1 .taken))) (c .refused-at .ensures)
 
-slice-aggregate-read-front : tie.Need-slice-aggregate-read-front
-slice-aggregate-read-front c = search needs
-
-read-front-requires : tie.Need-read-front-requires
-read-front-requires c κs = search needs
-
-enum-known-number : tie.Need-enum-known-number
-enum-known-number c = search needs
+read-lines-requires : tie.Need-read-lines-requires
+read-lines-requires c κs = search needs
 
 refused-at-requires-2 : tie.Need-refused-at-requires-2
 refused-at-requires-2 c κs = search needs
-
-enum-known-z : tie.Need-enum-known-z
-enum-known-z c = search needs
-
-slice-aggregate-read-rest : tie.Need-slice-aggregate-read-rest
-slice-aggregate-read-rest c = search needs
-
-read-rest-requires : tie.Need-read-rest-requires
-read-rest-requires c κs =
-    let f = c .before .before .before .before .before .before .before in
-    let d = f .before .before .before .before .before .before .before .before .before .before .before .before .before .before in
-    (front f .ready, read-lengths (length (d .args .samples .now)) (records d) (length (d .args .list .now)) (d .args .count) (right (f .before .before .before .before .before)))
-
-told-back-requires : tie.Need-told-back-requires
-told-back-requires c κs =
-    let f = c .before .before .before .before .before .before .before .before .before .before .before .before .before .before .before .before in
-    let d = f .before .before .before .before .before .before .before .before .before .before .before .before .before .before in
-    blocks-few (length (d .args .texture .now)) (f .z .given .0 .0) (front f .ready .size)
-
-returns-2 : tie.Need-returns-2
-returns-2 c =
-    let d = c .before .before .before .before .before .before .before .before .before .before .before .before .before .before .before .before in
-    let n = c .before .before in
-    all-refused (aids d) (d .args .kinds .now, (d .args .entries .now, (d .args .offs0 .now, d .args .offs1 .now))) (d .args .samples .now)
-    (passed (n .before .before .before .before .before) ∙ file-no (aids d) (d .args .bytes .now) (sym (ap (sizeBackTold _) (n .number .given .1)) ∙ n .before .before .before .read-front .ensures .0)) (c .refused-at2 .ensures)
 
 same-length : tie.Need-same-length
 same-length c = search needs
@@ -112,22 +97,51 @@ same-length-3 c = search needs
 same-length-4 : tie.Need-same-length-4
 same-length-4 c = search needs
 
+returns-2 : tie.Need-returns-2
+returns-2 c =
+    let d = c .before .before .before .before .before .before .before .before .before .before .before .before .before .before .before .before .before .before .before .before .before .before .before in
+    let w = c .before .before .before .before .before .before .before .before .before in
+    let t = all-refused (aids d) (slices d) (d .args .samples .now) (lines-refused (reading d) (told w) (c .before .if2 .taken)) (c .refused-at2 .ensures) in
+    (t .0, (left w, t .1 .1))
+
+fill-requires : tie.Need-fill-requires
+fill-requires c κs =
+    let r = c .before .before .before .before .before in
+    let d = r .before .before .before .before .before .before .before .before .before .before .before .before .before .before .before .before .before .before .before .before .before .before in
+    let l = enough (r .before .before .before .before .before .before .before .before .before .before .before .before .before) in
+    (fits (aids d) (d .args .bytes .now) _ (slices d) (whole r) (l .samples-lent), (blocks-room (aids d) (d .args .bytes .now) _ (slices d) (whole r) (l .records-lent), held-accepted (aids d) (d .args .bytes .now) _ (slices d) (whole r) (l .records-lent) (l .inside) (l .few)))
+
+told-back-requires : tie.Need-told-back-requires
+told-back-requires c κs = let r = c .before .before .before .before .before .before .before .before in let d = r .before .before .before .before .before .before .before .before .before .before .before .before .before .before .before .before .before .before .before .before .before .before in blocks-fit (aids d) (d .args .bytes .now) _ (slices d) (whole r)
+
 same-length-5 : tie.Need-same-length-5
 same-length-5 c = search needs
 
+same-length-6 : tie.Need-same-length-6
+same-length-6 c = search needs
+
+same-length-7 : tie.Need-same-length-7
+same-length-7 c = search needs
+
+same-length-8 : tie.Need-same-length-8
+same-length-8 c = search needs
+
+same-length-9 : tie.Need-same-length-9
+same-length-9 c = search needs
+
 returns-3 : tie.Need-returns-3
 returns-3 c =
-    let f = c .before .before .before .before .before .before .before .before .before .before .before .before .before .before .before .before .before in
-    let d = f .before .before .before .before .before .before .before .before .before .before .before .before .before .before in
-    let v = f .z .given .0 in
-    let u = remaining (d .args .bytes .now) (v .1 .0) in
-    let w = c .before .before .before .before .before .before .before .before .before .read-rest in
-    let t = f .before .before .before .read-front .last .1 .1 .0 in
-    let e = sym (passed (f .before .before .before .before .before)) in (
-      c .told-back .ensures ∙ back-is (aids d) (d .args .bytes .now) (v .0) u t (front f) (d .args .bytes .now) (w .result) (w .ensures .0) ∙ ap fileBack e,
+    let r = c .before .before .before .before .before .before .before .before .before in
+    let d = r .before .before .before .before .before .before .before .before .before .before .before .before .before .before .before .before .before .before .before .before .before .before in
+    let w = r .before .before .before .before .before .before .before .before in
+    let h = whole r in
+    let l = enough (r .before .before .before .before .before .before .before .before .before .before .before .before .before) in
+    let e = sym (passed (r .before .before .before .before .before .before .before .before .before .before .before .before .before) ∙ h .is) in (
+      c .told-back .ensures ∙ held-back (aids d) (d .args .bytes .now) _ (slices d) h ∙ ap fileBack e,
       (
-        w .ensures .1 .0 ∙ kept-is (aids d) (d .args .bytes .now) (v .0) u t (front f) (d .args .kinds .now, (d .args .entries .now, (d .args .offs0 .now, d .args .offs1 .now))) ∙ ap (λ (x : Lined File). leaving x (λ F. recordsBack F (d .args .kinds .now, (d .args .entries .now, (d .args .offs0 .now, d .args .offs1 .now)))) (d .args .kinds .now, (d .args .entries .now, (d .args .offs0 .now, d .args .offs1 .now)))) e,
-        w .ensures .1 .1 ∙ drawn-is (aids d) (d .args .bytes .now) (v .0) u t (front f) (d .args .samples .now) ∙ ap (λ (x : Lined File). leaving x (λ F. samplesBack (aids d) F (d .args .samples .now)) (d .args .samples .now)) e,
+        left w,
+        held-drawn (aids d) (d .args .bytes .now) _ (slices d) h (l .records-lent) (d .args .samples .now) (c .before .before .before .fill .ensures)
+            ∙ ap (λ (x : Lined File). leaving x (λ F. samplesBack (aids d) F (d .args .samples .now)) (d .args .samples .now)) e,
       ),
     )
 
@@ -139,18 +153,18 @@ read-spec =
     read-lengths-ok-requires
     refused-at-requires
     returns
-    slice-aggregate-read-front
-    read-front-requires
-    enum-known-number
+    read-lines-requires
     refused-at-requires-2
-    enum-known-z
-    slice-aggregate-read-rest
-    read-rest-requires
-    told-back-requires
-    returns-2
     same-length
     same-length-2
     same-length-3
     same-length-4
+    returns-2
+    fill-requires
+    told-back-requires
     same-length-5
+    same-length-6
+    same-length-7
+    same-length-8
+    same-length-9
     returns-3)

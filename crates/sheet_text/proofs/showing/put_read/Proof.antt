@@ -10,7 +10,8 @@ use Rattle.sheet.specs.Compose.{recordsLent}
 use Rattle.record_text.specs.Lines.{Lined}
 use Rattle.record_text.proofs.WriteSteps.{written-as}
 use Rattle.record_file.specs.Reading.{File, Aids, aidsOf, readFile}
-use Rattle.record_read.specs.Back.{samplesBack, fileBack, leaving}
+use Rattle.record_lines.specs.Back.{leaving}
+use Rattle.record_read.specs.Back.{samplesBack, fileBack}
 use Rattle.sheet_text.specs.Showing.{textBy, readWith}
 use Rattle.sheet_text.proofs.PrintLaws.{refusal-short}
 use Rattle.record_file.proofs.LineBounds.{read-below}

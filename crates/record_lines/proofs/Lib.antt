@@ -1,0 +1,4 @@
+-- Laws of reading lines.
+pub mod ReadLaws
+pub mod PartLaws
+pub mod BackLaws
