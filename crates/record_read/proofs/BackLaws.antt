@@ -2,27 +2,26 @@
 use Prim.Native.Nat.{ℕ, _+_, _*_, _≤_, _<_}
 use mathlib.Core.Path.{_≡_, refl, sym, _∙_, ap}
 use mathlib.Core.Bool.{true, false}
-use mathlib.Core.List.{List, _++_}
+use mathlib.Core.List.{List, [], _++_}
 use native.Mathlib.Nat.{le-trans, mul-le-mul}
 use native.Mathlib.Omega.{arith}
 use lib.IntN.{ℤ}
 use lib.ListN.{length, take, drop, replicate, length-replicate}
 use lib.Seq.{sets, sets-eq, length-sets, take-at}
-use Rattle.choice.specs.Record.{Record}
 use Rattle.sheet.specs.State.{after}
 use Rattle.sheet.specs.Place.{materialOf, placeRefusal, placedInTurn}
 use Rattle.sheet.specs.Compose.{recordsLent}
 use Rattle.record_text.specs.Lines.{Lined, refusedAt, read}
 use Rattle.record_file.specs.Text.{meant, recordAt}
-use Rattle.record_file.specs.Reading.{File, Aids, blocksIn, fileLines, readLengthsOk, ReadLengths, readFile}
-use Rattle.record_file.proofs.FileLaws.{FileSound, file-wrote}
-use Rattle.record_file.proofs.LineBounds.{Below, lineEnd, blocks-few}
+use Rattle.record_file.specs.Reading.{File, fileOf, Aids, blocksIn, fileLines, readLengthsOk, readFile}
+use Rattle.record_file.proofs.FileLaws.{size-small, file-wrote}
+use Rattle.record_file.proofs.LineBounds.{blocks-few}
 use Rattle.record_lines.specs.declared.whole.LinesBack.{LinesBack}
 use Rattle.record_lines.specs.Stored.{Slices, putRecords}
 use Rattle.record_lines.specs.Back.{linesBack, recordsBack, leaving}
 use Rattle.record_read.specs.declared.reading.FileBack.{FileBack}
-use Rattle.record_read.specs.Back.{recordIn, samplesBack, fileBack, sheetOf, tableOf, backOf}
-use Rattle.record_read.proofs.RestLaws.{record-back, lent-same, in-turn-ext, headerOf, header-small, file-accepted}
+use Rattle.record_read.specs.Back.{emptySheet, materialIn, recordIn, samplesBack, fileBack, sheetOf, tableOf, backOf}
+use Rattle.record_read.proofs.RestLaws.{record-back, lent-same, in-turn-ext, headerOf, file-accepted}
 
 -- ---- the lengths
 
@@ -42,27 +41,48 @@ pub all-refused :
     → (r ≡ fileBack x) × ((old ≡ leaving x (λ F. recordsBack F old) old) × (samples ≡ leaving x (λ F. samplesBack A F samples) samples))
 all-refused A old samples e q = rw e (q, (refl, refl))
 
--- a line that the lines' answer refuses
-pub lines-refused : (x : Lined File) {b : LinesBack} → b ≡ linesBack x → (b .refusal ≡ 0 → ⊥) → x ≡ refusedAt (b .refusal) (b .line)
-lines-refused (refusedAt n k) e h = rw e
-lines-refused (read F s) e h = absurd (h (ap (λ (y : LinesBack). y .refusal) e))
+-- ---- what was read
 
--- ---- where nothing is refused
+-- the file that was read; where a line is refused, one of no blocks
+abbrev fileIn : Lined File → File
+fileIn (refusedAt n k) = fileOf 0 0 0 [] []
+fileIn (read F s) = F
 
--- the file that was read, with the lines' answer and the lent records before and after
-pub record Held (A : Aids) (s : List ℕ) (b : LinesBack) (old new : Slices) : Type 0 where
-  pub file : File
-  pub rest : List ℕ
-  pub is : fileLines A s ≡ read file rest
-  pub sound : FileSound A file
-  pub told : b ≡ linesBack (read file rest)
-  pub stored : new ≡ recordsBack file old
+-- the samples of either
+none-drawn :
+    (A : Aids) (t : List ℕ) → let F = fileOf 0 0 0 [] [] in placedInTurn (emptySheet F) (materialIn A F) (recordIn F) (take (F .width * F .height) t) (blocksIn (headerOf F)) ++ drop (F .width * F .height) t ≡ t
+unfolding placedInTurn
+none-drawn A t = refl
 
-pub held :
-    (A : Aids) (s : List ℕ) (x : Lined File) {b : LinesBack} (old : Slices) {new : Slices} → fileLines A s ≡ x → Below lineEnd x → b ≡ linesBack x
-    → new ≡ leaving x (λ F. recordsBack F old) old → b .refusal ≡ 0 → Held A s b old new
-held A s (refusedAt n k) old p h e q z = absurd (omega (arith, h .0, ap (λ (y : LinesBack). y .refusal) e, z))
-held A s (read F u) old p h e q z = record { file = F; rest = u; is = p; sound = file-wrote A F s u p .sound; told = e; stored = q }
+file-drawn :
+    (A : Aids) (F : File) (t : List ℕ)
+    → placedInTurn (emptySheet F) (materialIn A F) (recordIn F) (take (F .width * F .height) t) (blocksIn (headerOf F)) ++ drop (F .width * F .height) t ≡ samplesBack A F t
+unfolding samplesBack
+file-drawn A F t = refl
+
+-- what holds of both
+record Drawable (A : Aids) (F : File) : Type 0 where
+  table : length (F .table) ≤ 256
+  width : F .width ≤ 128
+  height : F .height ≤ 128
+  blocks : blocksIn (headerOf F) ≤ 1024
+  whole : length (F .records) ≡ blocksIn (headerOf F)
+  each : (i : ℕ) → i < blocksIn (headerOf F) → placeRefusal (after i (emptySheet F)) (F .width * F .height) (materialIn A F) (recordIn F i) ≡ 0
+
+drawable : (A : Aids) (s : List ℕ) (x : Lined File) → fileLines A s ≡ x → A .count ≤ length (A .list) → A .count ≤ 9999 → Drawable A (fileIn x)
+drawable A s (refusedAt n k) e inside few =
+    record { table = omega arith; width = omega arith; height = omega arith; blocks = omega arith; whole = refl; each = λ i l. absurd (omega (arith, l)) }
+drawable A s (read F u) e inside few =
+    let ok = file-wrote A F s u e .sound in
+    let z = size-small (length (A .texture)) (headerOf F) (ok .size) in
+    record {
+      table = z .values;
+      width = z .width;
+      height = z .height;
+      blocks = blocks-few (length (A .texture)) (headerOf F) (ok .size);
+      whole = ok .whole;
+      each = file-accepted A F ok inside few;
+    }
 
 -- the first values of the array are the table
 table-first : (t : List ℕ) → length t ≤ 256 → take (length t) (sets (replicate 256 0) 0 t) ≡ t
@@ -70,54 +90,90 @@ table-first t h =
     ap (take (length t)) (sets-eq t (replicate 256 0) 0 (omega (arith, length-replicate {A = ℕ} 256 0)))
     ∙ take-at t (drop (0 + length t) (replicate 256 0)) (length t) refl
 
-module _ (A : Aids) (s : List ℕ) (b : LinesBack) (old : Slices) {k e : List ℕ} {a o : List ℤ} (h : Held A s b old (k, (e, (a, o)))) where
-  -- the table and the samples have room
-  pub fits : {samples : ℕ} → 16384 ≤ samples → (b .size .values ≤ length (b .table)) × (b .size .width * b .size .height ≤ samples) × (b .size .width ≤ 128) × (b .size .height ≤ 128)
-  fits l =
-      let F = h .file in
-      let z = header-small A F (h .sound) in
-      let area = mul-le-mul {n₁ = F .width} {m₁ = F .height} {n₂ = 128} {m₂ = 128} (z .width) (z .height) in
-      let t : length (F .table) ≤ length (sets (replicate 256 0) 0 (F .table)) = omega (arith, length-sets (replicate 256 0) 0 (F .table), length-replicate {A = ℕ} 256 0, z .values) in
-      rw (h .told) (t, le-trans area l, z .width, z .height)
+-- the lines' answer b and the lent records afterwards, where reading gives x
+module _
+    (A : Aids) (s : List ℕ) (x : Lined File) (read-as : fileLines A s ≡ x) (inside : A .count ≤ length (A .list)) (few : A .count ≤ 9999)
+    (b : LinesBack) (told : b ≡ linesBack x)
+  where
+    file : Drawable A (fileIn x)
+    file = drawable A s x read-as inside few
 
-  pub blocks-fit : blocksIn (b .size) ≤ 1024
-  blocks-fit = rw (h .told) (blocks-few (length (A .texture)) (headerOf (h .file)) (h .sound .size))
+    size-is : b .size ≡ headerOf (fileIn x)
+    size-is = ap (λ (y : LinesBack). y .size) told ∙ go x
+      where
+        go : (x : Lined File) → linesBack x .size ≡ headerOf (fileIn x)
+        go (refusedAt n k) = refl
+        go (read F u) = refl
 
-  as-read : tableOf b ≡ h .file .table
-  as-read = ap tableOf (h .told) ∙ table-first (h .file .table) (header-small A (h .file) (h .sound) .values)
+    array-is : b .table ≡ sets (replicate 256 0) 0 (fileIn x .table)
+    array-is = ap (λ (y : LinesBack). y .table) told ∙ go x
+      where
+        go : (x : Lined File) → linesBack x .table ≡ sets (replicate 256 0) 0 (fileIn x .table)
+        go (refusedAt n k) = refl
+        go (read F u) = refl
 
-  all-blocks : blocksIn (b .size) ≡ length (h .file .records)
-  all-blocks = ap (λ (y : LinesBack). blocksIn (y .size)) (h .told) ∙ sym (h .sound .whole)
+    -- the table and the samples have room
+    pub fits : {samples : ℕ} → 16384 ≤ samples → (b .size .values ≤ length (b .table)) × (b .size .width * b .size .height ≤ samples) × (b .size .width ≤ 128) × (b .size .height ≤ 128)
+    fits l =
+        let F = fileIn x in
+        let area = mul-le-mul {n₁ = F .width} {m₁ = F .height} {n₂ = 128} {m₂ = 128} (file .width) (file .height) in
+        let t : length (F .table) ≤ length (sets (replicate 256 0) 0 (F .table)) = omega (arith, length-sets (replicate 256 0) 0 (F .table), length-replicate {A = ℕ} 256 0, file .table) in
+        rw (size-is, array-is) (t, le-trans area l, file .width, file .height)
 
-  module _ (room : 1024 ≤ recordsLent (length (old .0)) (length (old .1 .0)) (length (old .1 .1 .0)) (length (old .1 .1 .1))) where
-    -- there is room for every record
-    pub blocks-room : blocksIn (b .size) ≤ recordsLent (length k) (length e) (length a) (length o)
-    blocks-room = rw (lent-same (h .file .records) old (h .stored)) (le-trans blocks-fit room)
+    pub blocks-fit : blocksIn (b .size) ≤ 1024
+    blocks-fit = rw size-is (file .blocks)
 
-    -- the record at each place
-    record-held : (i : ℕ) → i < blocksIn (b .size) → meant (recordAt k e a o i) ≡ recordIn (h .file) i
-    record-held i l = ap meant (record-back (h .file .records) old (h .stored) (rw (← all-blocks) (le-trans blocks-fit room)) i (rw (← all-blocks) l))
+    table-is : tableOf b ≡ fileIn x .table
+    table-is = rw (size-is, array-is) (table-first (fileIn x .table) (file .table))
 
-    -- each is accepted for its block
-    pub held-accepted :
-        A .count ≤ length (A .list) → A .count ≤ 9999 → (i : ℕ) → i < blocksIn (b .size)
-        → placeRefusal (after i (sheetOf b)) (b .size .width * b .size .height) (materialOf (A .list) (A .count) (tableOf b) (A .texture)) (meant (recordAt k e a o i)) ≡ 0
-    held-accepted inside few i l =
-        let p = file-accepted A (h .file) (h .sound) inside few i (rw (h .told) at l) in
-        rw (as-read, record-held i l) (rw (h .told) p)
+    -- the answer
+    pub back-is : backOf b ≡ fileBack x
+    back-is = ap backOf told ∙ go x
+      where
+        go : (x : Lined File) → backOf (linesBack x) ≡ fileBack x
+        go (refusedAt n k) = refl
+        go (read F u) = refl
 
-    -- the samples afterwards
-    pub held-drawn :
-        (t : List ℕ) {new : List ℕ}
-        → new ≡ placedInTurn (sheetOf b) (materialOf (A .list) (A .count) (tableOf b) (A .texture)) (λ i. meant (recordAt k e a o i)) (take (b .size .width * b .size .height) t) (blocksIn (b .size)) ++ drop (b .size .width * b .size .height) t
-        → new ≡ samplesBack A (h .file) t
-    unfolding samplesBack
-    held-drawn t {new} q =
-        q
-        ∙ ap (λ (l : List ℕ). l ++ drop (b .size .width * b .size .height) t)
-        (in-turn-ext (sheetOf b) (materialOf (A .list) (A .count) (tableOf b) (A .texture)) (λ i. meant (recordAt k e a o i)) (recordIn (h .file)) (take (b .size .width * b .size .height) t) (blocksIn (b .size)) record-held)
-        ∙ rw as-read (rw (h .told) refl)
+    module _
+        (old : Slices) {k e : List ℕ} {a o : List ℤ} (left : _≡_ {A = Slices} (k, (e, (a, o))) (leaving x (λ F. recordsBack F old) old))
+        (room : 1024 ≤ recordsLent (length (old .0)) (length (old .1 .0)) (length (old .1 .1 .0)) (length (old .1 .1 .1)))
+      where
+        stored : _≡_ {A = Slices} (k, (e, (a, o))) (putRecords old (fileIn x .records))
+        stored = left ∙ go x
+          where
+            go : (x : Lined File) → leaving x (λ F. recordsBack F old) old ≡ putRecords old (fileIn x .records)
+            go (refusedAt n k) = refl
+            go (read F u) = refl
 
-  -- the answer
-  pub held-back : backOf b ≡ fileBack (read (h .file) (h .rest))
-  held-back = ap backOf (h .told)
+        -- there is room for every record
+        pub blocks-room : blocksIn (b .size) ≤ recordsLent (length k) (length e) (length a) (length o)
+        blocks-room = rw (lent-same (fileIn x .records) old stored) (le-trans blocks-fit room)
+
+        -- the record at each place
+        record-is : (i : ℕ) → i < blocksIn (b .size) → meant (recordAt k e a o i) ≡ recordIn (fileIn x) i
+        record-is i l =
+            ap meant
+            (record-back (fileIn x .records) old stored (le-trans (rw (file .whole) (file .blocks)) room) i (rw (file .whole) (rw size-is at l)))
+
+        -- each is accepted for its block
+        pub accepted :
+            (i : ℕ) → i < blocksIn (b .size)
+            → placeRefusal (after i (sheetOf b)) (b .size .width * b .size .height) (materialOf (A .list) (A .count) (tableOf b) (A .texture)) (meant (recordAt k e a o i)) ≡ 0
+        accepted i l = rw (table-is, record-is i l, size-is) (file .each i (rw size-is at l))
+
+        -- the samples afterwards
+        pub drawn :
+            (t : List ℕ) {new : List ℕ}
+            → new ≡ placedInTurn (sheetOf b) (materialOf (A .list) (A .count) (tableOf b) (A .texture)) (λ i. meant (recordAt k e a o i)) (take (b .size .width * b .size .height) t) (blocksIn (b .size)) ++ drop (b .size .width * b .size .height) t
+            → new ≡ leaving x (λ F. samplesBack A F t) t
+        drawn t {new} q =
+            q
+            ∙ ap (λ (l : List ℕ). l ++ drop (b .size .width * b .size .height) t)
+            (in-turn-ext (sheetOf b) (materialOf (A .list) (A .count) (tableOf b) (A .texture)) (λ i. meant (recordAt k e a o i)) (recordIn (fileIn x)) (take (b .size .width * b .size .height) t) (blocksIn (b .size)) record-is)
+            ∙ rw (table-is, size-is) (go x)
+          where
+            go : (x : Lined File)
+                → placedInTurn (emptySheet (fileIn x)) (materialIn A (fileIn x)) (recordIn (fileIn x)) (take (fileIn x .width * fileIn x .height) t) (blocksIn (headerOf (fileIn x))) ++ drop (fileIn x .width * fileIn x .height) t
+                ≡ leaving x (λ F. samplesBack A F t) t
+            go (refusedAt n k) = none-drawn A t
+            go (read F u) = file-drawn A F t

@@ -25,7 +25,7 @@ use Rattle.record_text.specs.declared.cursor.SizeFields.{SizeFields}
 use Rattle.record_text.specs.declared.cursor.RecordFields.{RecordFields}
 use Rattle.record_file.specs.Text.{noRecord, recordAt, sizeFieldsOf}
 use Rattle.record_file.specs.Reading.{File, Aids, sizeMeaning}
-use Rattle.record_file.proofs.FileLaws.{FileSound, SizeSmall, size-small}
+use Rattle.record_file.proofs.FileLaws.{FileSound, size-small}
 use Rattle.record_file.proofs.RoundTrip.{parts-table}
 use Rattle.record_lines.specs.Stored.{Slices, putRecords}
 use Rattle.record_read.specs.Back.{emptySheet, materialIn, recordIn}
@@ -94,9 +94,6 @@ headerOf F = sizeFieldsOf (F .n) (F .width) (F .height) (length (F .table))
 
 -- the records of a sound file
 module _ (A : Aids) (F : File) (ok : FileSound A F) where
-  pub header-small : SizeSmall (headerOf F)
-  header-small = size-small (length (A .texture)) (headerOf F) (ok .size)
-
   texture-fits : (length (A .texture) ≡ 0) ⊎ (length (A .texture) ≡ F .width * F .height)
   unfolding sizeMeaning
   texture-fits =
@@ -113,7 +110,7 @@ module _ (A : Aids) (F : File) (ok : FileSound A F) where
   unfolding placeRefusal
   file-accepted inside few i l =
       let S = after i (emptySheet F) in
-      let s = header-small in
+      let s = size-small (length (A .texture)) (headerOf F) (ok .size) in
       let b = both-of (sideOk (F .n) (F .width)) (sideOk (F .n) (F .height)) (s .sides) in
       let o : Open S = record {
         size = s .size;

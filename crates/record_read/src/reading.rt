@@ -100,7 +100,7 @@ pub struct FileBack {
     pub table: [u8; 256],
 }
 
-// The answer where the file is refused.
+// The answer where the lengths are refused.
 fn refused_at(refusal: u8, line: u32) -> FileBack
     ensures { λ r. ⌜ r ≡ fileBack (refusedAt refusal line) ⌝ }
 {
@@ -118,7 +118,7 @@ fn refused_at(refusal: u8, line: u32) -> FileBack
     }
 }
 
-// Places a file's records in turn on the first samples.
+// Places a file's records in turn on the first samples; where its lines are refused it has no blocks, and nothing is placed.
 fn fill(
     lines: LinesBack,
     samples: &mut [u8],
@@ -209,9 +209,6 @@ pub fn read(
         return refused_at(2, 0);
     }
     let lines = read_lines(bytes, list, count, texture, kinds, entries, offs0, offs1);
-    if lines.refusal != 0 {
-        return refused_at(lines.refusal, lines.line);
-    }
     fill(
         lines,
         samples,

@@ -6,15 +6,14 @@ use mathlib.Core.Bool.{true}
 use borrow.Author.Tests.{not-true, not-false}
 use lib.ListN.{length}
 use Rattle.sheet.specs.Compose.{recordsLent}
-use Rattle.record_text.specs.Lines.{Lined, read}
+use Rattle.record_text.specs.Lines.{Lined}
 use Rattle.record_file.specs.Reading.{File, Aids, aidsOf, fileLines, readLengthsOk, ReadLengths, readFile}
 use Rattle.record_file.proofs.RoundTrip.{read-lengths}
-use Rattle.record_file.proofs.LineBounds.{Below, lineEnd, read-below}
 use Rattle.record_lines.specs.Stored.{Slices}
 use Rattle.record_lines.specs.Back.{readLines, linesBack, recordsBack, leaving}
 use Rattle.record_lines.proofs.BackLaws.{lines-passed}
 use Rattle.record_read.specs.Back.{fileBack, samplesBack}
-use Rattle.record_read.proofs.BackLaws.{read-short, read-passed, all-refused, lines-refused, Held, held, fits, blocks-fit, blocks-room, held-accepted, held-drawn, held-back}
+use Rattle.record_read.proofs.BackLaws.{read-short, read-passed, all-refused, fits, blocks-fit, blocks-room, accepted, drawn, back-is}
 use Rattle.record_read.proofs.reading.read.Statement.{statement}
 use Rattle.record_read.proofs.reading.read.Tie as tie
 
@@ -57,13 +56,6 @@ told c = c .read-lines .ensures .0 ∙ ap linesBack (same (c .before .before .be
 left : (c : tie.After-read-lines) → let d = c .before .before .before .before .before .before .before .before .before .before .before .before .before .before in let w = c .read-lines .last in _≡_ {A = Slices} (w .1 .1 .1 .1 .0, (w .1 .1 .1 .1 .1 .0, (w .1 .1 .1 .1 .1 .1 .0, w .1 .1 .1 .1 .1 .1 .1 .0))) (leaving (reading d) (λ F. recordsBack F (slices d)) (slices d))
 left c = let d = c .before .before .before .before .before .before .before .before .before .before .before .before .before .before in c .read-lines .ensures .1 ∙ ap (λ (x : Lined File). leaving x (λ F. recordsBack F (slices d)) (slices d)) (same (c .before .before .before .before .before))
 
--- what was read where nothing is refused
-whole : (c : tie.Else2) → let d = c .before .before .before .before .before .before .before .before .before .before .before .before .before .before .before .before .before .before .before .before .before .before in let w = c .before .before .before .before .before .before .before .before .read-lines in Held (aids d) (d .args .bytes .now) (w .result) (slices d) (w .last .1 .1 .1 .1 .0, (w .last .1 .1 .1 .1 .1 .0, (w .last .1 .1 .1 .1 .1 .1 .0, w .last .1 .1 .1 .1 .1 .1 .1 .0)))
-whole c =
-    let d = c .before .before .before .before .before .before .before .before .before .before .before .before .before .before .before .before .before .before .before .before .before .before in
-    let w = c .before .before .before .before .before .before .before .before in
-    held (aids d) (d .args .bytes .now) (reading d) (slices d) (sym (passed (w .before .before .before .before .before))) (read-below (aids d) (length (d .args .samples .now)) (records d) (d .args .bytes .now)) (told w) (left w) (c .if2 .left)
-
 records-lent-requires : tie.Need-records-lent-requires
 records-lent-requires c κs = search needs
 
@@ -82,8 +74,25 @@ returns c =
 read-lines-requires : tie.Need-read-lines-requires
 read-lines-requires c κs = search needs
 
-refused-at-requires-2 : tie.Need-refused-at-requires-2
-refused-at-requires-2 c κs = search needs
+fill-requires : tie.Need-fill-requires
+fill-requires c κs =
+    let w = c .before .before .before .before .before .before .before .before .before .before .before in
+    let d = w .before .before .before .before .before .before .before .before .before .before .before .before .before .before in
+    let l = enough (w .before .before .before .before .before) in
+    let x = sym (passed (w .before .before .before .before .before)) in (
+      fits (aids d) (d .args .bytes .now) (reading d) x (l .inside) (l .few) _ (told w) (l .samples-lent),
+      (
+        blocks-room (aids d) (d .args .bytes .now) (reading d) x (l .inside) (l .few) _ (told w) (slices d) (left w) (l .records-lent),
+        accepted (aids d) (d .args .bytes .now) (reading d) x (l .inside) (l .few) _ (told w) (slices d) (left w) (l .records-lent),
+      ),
+    )
+
+told-back-requires : tie.Need-told-back-requires
+told-back-requires c κs =
+    let w = c .before .before .before .before .before .before .before .before .before .before .before .before .before .before in
+    let d = w .before .before .before .before .before .before .before .before .before .before .before .before .before .before in
+    let l = enough (w .before .before .before .before .before) in
+    blocks-fit (aids d) (d .args .bytes .now) (reading d) (sym (passed (w .before .before .before .before .before))) (l .inside) (l .few) _ (told w)
 
 same-length : tie.Need-same-length
 same-length c = search needs
@@ -97,51 +106,19 @@ same-length-3 c = search needs
 same-length-4 : tie.Need-same-length-4
 same-length-4 c = search needs
 
-returns-2 : tie.Need-returns-2
-returns-2 c =
-    let d = c .before .before .before .before .before .before .before .before .before .before .before .before .before .before .before .before .before .before .before .before .before .before .before in
-    let w = c .before .before .before .before .before .before .before .before .before in
-    let t = all-refused (aids d) (slices d) (d .args .samples .now) (lines-refused (reading d) (told w) (c .before .if2 .taken)) (c .refused-at2 .ensures) in
-    (t .0, (left w, t .1 .1))
-
-fill-requires : tie.Need-fill-requires
-fill-requires c κs =
-    let r = c .before .before .before .before .before in
-    let d = r .before .before .before .before .before .before .before .before .before .before .before .before .before .before .before .before .before .before .before .before .before .before in
-    let l = enough (r .before .before .before .before .before .before .before .before .before .before .before .before .before) in
-    (fits (aids d) (d .args .bytes .now) _ (slices d) (whole r) (l .samples-lent), (blocks-room (aids d) (d .args .bytes .now) _ (slices d) (whole r) (l .records-lent), held-accepted (aids d) (d .args .bytes .now) _ (slices d) (whole r) (l .records-lent) (l .inside) (l .few)))
-
-told-back-requires : tie.Need-told-back-requires
-told-back-requires c κs = let r = c .before .before .before .before .before .before .before .before in let d = r .before .before .before .before .before .before .before .before .before .before .before .before .before .before .before .before .before .before .before .before .before .before in blocks-fit (aids d) (d .args .bytes .now) _ (slices d) (whole r)
-
 same-length-5 : tie.Need-same-length-5
 same-length-5 c = search needs
 
-same-length-6 : tie.Need-same-length-6
-same-length-6 c = search needs
-
-same-length-7 : tie.Need-same-length-7
-same-length-7 c = search needs
-
-same-length-8 : tie.Need-same-length-8
-same-length-8 c = search needs
-
-same-length-9 : tie.Need-same-length-9
-same-length-9 c = search needs
-
-returns-3 : tie.Need-returns-3
-returns-3 c =
-    let r = c .before .before .before .before .before .before .before .before .before in
-    let d = r .before .before .before .before .before .before .before .before .before .before .before .before .before .before .before .before .before .before .before .before .before .before in
-    let w = r .before .before .before .before .before .before .before .before in
-    let h = whole r in
-    let l = enough (r .before .before .before .before .before .before .before .before .before .before .before .before .before) in
-    let e = sym (passed (r .before .before .before .before .before .before .before .before .before .before .before .before .before) ∙ h .is) in (
-      c .told-back .ensures ∙ held-back (aids d) (d .args .bytes .now) _ (slices d) h ∙ ap fileBack e,
+returns-2 : tie.Need-returns-2
+returns-2 c =
+    let w = c .before .before .before .before .before .before .before .before .before .before .before .before .before .before .before in
+    let d = w .before .before .before .before .before .before .before .before .before .before .before .before .before .before in
+    let l = enough (w .before .before .before .before .before) in
+    let x = sym (passed (w .before .before .before .before .before)) in (
+      c .told-back .ensures ∙ back-is (aids d) (d .args .bytes .now) (reading d) x (l .inside) (l .few) _ (told w),
       (
         left w,
-        held-drawn (aids d) (d .args .bytes .now) _ (slices d) h (l .records-lent) (d .args .samples .now) (c .before .before .before .fill .ensures)
-            ∙ ap (λ (x : Lined File). leaving x (λ F. samplesBack (aids d) F (d .args .samples .now)) (d .args .samples .now)) e,
+        drawn (aids d) (d .args .bytes .now) (reading d) x (l .inside) (l .few) _ (told w) (slices d) (left w) (l .records-lent) (d .args .samples .now) (c .before .before .before .fill .ensures),
       ),
     )
 
@@ -154,17 +131,11 @@ read-spec =
     refused-at-requires
     returns
     read-lines-requires
-    refused-at-requires-2
+    fill-requires
+    told-back-requires
     same-length
     same-length-2
     same-length-3
     same-length-4
-    returns-2
-    fill-requires
-    told-back-requires
     same-length-5
-    same-length-6
-    same-length-7
-    same-length-8
-    same-length-9
-    returns-3)
+    returns-2)
