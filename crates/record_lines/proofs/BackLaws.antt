@@ -12,12 +12,13 @@ use Rattle.record_text.specs.Lines.{Lined, refusedAt, read, linesThen}
 use Rattle.record_text.proofs.LinesLaws.{refused-read}
 use Rattle.record_file.specs.Reading.{File, fileOf, Aids, sizeMeaning, frontLines, restLines, fileLines}
 use Rattle.record_file.proofs.FileLaws.{front-parts}
-use Rattle.record_lines.specs.declared.loops.LinesRead.{LinesRead}
-use Rattle.record_lines.specs.declared.loops.LinesRead.the-variants as linesRead
+use Rattle.record_front.specs.declared.loops.LinesRead.{LinesRead}
+use Rattle.record_front.specs.declared.loops.LinesRead.the-variants as linesRead
+use Rattle.record_front.specs.Told.{linesTold, only, sizeOnly, tableBack}
+use Rattle.record_front.proofs.PartLaws.{only-refused, only-read}
 use Rattle.record_lines.specs.declared.whole.LinesBack.{LinesBack}
-use Rattle.record_lines.specs.Stored.{linesTold, only, sizeOnly, TableIf, Slices, putRecords, putOr}
+use Rattle.record_lines.specs.Stored.{Slices, putRecords, putOr}
 use Rattle.record_lines.specs.Back.{readLines, linesBack, recordsBack, leaving, linesBy}
-use Rattle.record_lines.proofs.PartLaws.{OnlyRead, only-refused, only-read}
 
 -- ---- the lengths
 
@@ -52,31 +53,22 @@ pub record FrontRead (A : Aids) (s : List ℕ) (z : SizeFields) (u array : List 
   pub count : length table ≡ z .values
   pub held : array ≡ sets (replicate 256 0) 0 table
 
-front-yes :
-    (x : Lined (SizeFields × List ℕ)) (z : SizeFields) (u array : List ℕ) (put : List ℕ → List ℕ) → read z u ≡ sizeOnly x → TableIf put x array
-    → OnlyRead x u × ((l : List ℕ) → x ≡ read (z, l) u → array ≡ put l)
-front-yes (refusedAt n k) z u array put e h = refused-read (sym e)
-front-yes (read f s) z u array put e h =
-    let p : u ≡ s = cc in
-    (record { value = f; is = ap (read f) (sym p) }, λ l q. h ∙ ap put (second q))
-  where
-    second : {f : SizeFields × List ℕ} {l s t : List ℕ} → read f s ≡ read (z, l) t → f .1 ≡ l
-    second {f} {l} q = ap (λ (g : SizeFields × List ℕ). g .1) (let e : f ≡ (z, l) = cc in e)
-
 pub front-is :
     (A : Aids) (s : List ℕ) (z : SizeFields) (u array : List ℕ) → read z u ≡ sizeOnly (frontLines (length (A .texture)) s)
-    → TableIf (sets (replicate 256 0) 0) (frontLines (length (A .texture)) s) array → FrontRead A s z u array
-front-is A s z u array e h =
-    let t = length (A .texture) in
-    let y = front-yes (frontLines t s) z u array (sets (replicate 256 0) 0) e h in
-    let f = y .0 .value in
-    let q : read z u ≡ read (f .0) u = e ∙ ap sizeOnly (y .0 .is) in
-    let is : frontLines t s ≡ read (z, f .1) u = y .0 .is ∙ ap (λ (g : SizeFields). read (g, f .1) u) (sym (size-same q)) in
-    let p = front-parts t s z (f .1) u is in
-    record { table = f .1; is = is; size = p .size; count = p .count; held = y .1 (f .1) is }
+    → array ≡ tableBack (frontLines (length (A .texture)) s) → FrontRead A s z u array
+front-is A s z u array e h = go (frontLines t s) refl e h
   where
-    size-same : {a b : SizeFields} {s t : List ℕ} → read a s ≡ read b t → a ≡ b
-    size-same e = cc
+    t : ℕ
+    t = length (A .texture)
+
+    go : (x : Lined (SizeFields × List ℕ)) → frontLines t s ≡ x → read z u ≡ sizeOnly x → array ≡ tableBack x → FrontRead A s z u array
+    go (refusedAt n k) q e h = refused-read (sym e)
+    go (read f v) q e h =
+        let ez : f .0 ≡ z = cc in
+        let eu : v ≡ u = cc in
+        let is : frontLines t s ≡ read (z, f .1) u = q ∙ rw (ez, eu) in
+        let p = front-parts t s z (f .1) u is in
+        record { table = f .1; is = is; size = p .size; count = p .count; held = h }
 
 -- ---- the rest
 

@@ -1,4 +1,4 @@
--- Laws of reading lines.
-pub mod ReadLaws
+-- Laws of reading the lines of a file.
+pub mod StoredLaws
 pub mod PartLaws
 pub mod BackLaws

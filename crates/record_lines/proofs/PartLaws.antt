@@ -1,70 +1,15 @@
--- The parts of a file as the code reads them: the lines before the records, and the records and the end. Assumes nothing.
-use Prim.Native.Nat.{ℕ, _+_, _≤_, _<_}
+-- The records and the end of the file as the code reads them. Assumes nothing.
+use Prim.Native.Nat.{ℕ, _≤_, _<_}
 use mathlib.Core.Path.{_≡_, refl, sym, _∙_, ap}
 use mathlib.Core.List.{List, [], _∷_}
 use native.Mathlib.Omega.{arith}
 use lib.ListN.{length, drop, drop-of-length-le}
 use lib.Seq.{drop-cons}
-use Rattle.record_text.specs.declared.cursor.SizeFields.{SizeFields}
-use Rattle.record_text.specs.Parsed.{Parsed, badForm, found, exactly}
-use Rattle.record_text.specs.Line.{sizeTitle, depthTitle, recordTitle, sizeLine}
-use Rattle.record_text.specs.Lines.{Lined, refusedAt, read, line, linesThen, noMeaning, ended}
+use Rattle.record_text.specs.Lines.{Lined, refusedAt, read, linesThen, ended}
 use Rattle.record_text.proofs.LinesLaws.{refused-read}
-use Rattle.record_file.specs.Reading.{sizeMeaning, headLines, valueLines, tableLines, frontLines}
-use Rattle.record_lines.specs.Stored.{only, sizeOnly, PutIf, putOr, TableIf}
-
--- ---- what lines that were read, without their values, were
-
-pub only-refused : {A : Type 0} (x : Lined A) {n k : ℕ} → refusedAt n k ≡ only x → x ≡ refusedAt n k
-only-refused {A} (refusedAt i j) {n} {k} e = ap back (sym e)
-  where
-    back : Lined (Unit {0}) → Lined A
-    back (refusedAt n k) = refusedAt n k
-    back (read u s) = refusedAt 0 0
-only-refused (read a s) e = refused-read e
-
-pub record OnlyRead {A : Type 0} (x : Lined A) (u : List ℕ) : Type 0 where
-  pub value : A
-  pub is : x ≡ read value u
-
-pub only-read : {A : Type 0} (x : Lined A) (u : List ℕ) → read tt u ≡ only x → OnlyRead x u
-only-read (refusedAt n k) u e = refused-read (sym e)
-only-read (read a s) u e = let p : u ≡ s = cc in record { value = a; is = ap (read a) (sym p) }
-
--- ---- the table and the title after it
-
-module _ (put : List ℕ → List ℕ) (z : SizeFields) (s t : List ℕ) where
-  pub table-refused : {n k : ℕ} → refusedAt n k ≡ only (valueLines (z .values) 4 s) → (refusedAt n k ≡ sizeOnly (tableLines z s)) × TableIf put (tableLines z s) t
-  table-refused e = rw (only-refused (valueLines (z .values) 4 s) e) (refl, tt)
-
-  pub table-read :
-      {y : Lined SizeFields} {u : List ℕ} → read tt u ≡ only (valueLines (z .values) 4 s) → PutIf put (valueLines (z .values) 4 s) t
-      → y ≡ line (4 + z .values) (exactly recordTitle u) noMeaning (λ w v. read z v) → (y ≡ sizeOnly (tableLines z s)) × TableIf put (tableLines z s) t
-  table-read {y} {u} e h q = go (valueLines (z .values) 4 s) e h
-    where
-      title : (l : List ℕ) → t ≡ put l → (p : Parsed (Unit {0})) → y ≡ line (4 + z .values) p noMeaning (λ w v. read z v)
-          → (y ≡ sizeOnly (line (4 + z .values) p noMeaning (λ w v. read (z, l) v))) × TableIf put (line (4 + z .values) p noMeaning (λ w v. read (z, l) v)) t
-      title l h badForm q = (q, tt)
-      title l h (found w v) q = (q, h)
-
-      go : (x : Lined (List ℕ)) → read tt u ≡ only x → PutIf put x t
-          → (y ≡ sizeOnly (linesThen x (λ l v. line (4 + z .values) (exactly recordTitle v) noMeaning (λ w v. read (z, l) v))))
-          × TableIf put (linesThen x (λ l v. line (4 + z .values) (exactly recordTitle v) noMeaning (λ w v. read (z, l) v))) t
-      go (refusedAt n k) e h = refused-read (sym e)
-      go (read l v) e h = let p : u ≡ v = cc in title l h (exactly recordTitle v) (rw p at q)
-
--- ---- the lines before the records
-
-module _ (put : List ℕ → List ℕ) (texture : ℕ) (s t : List ℕ) where
-  pub front-refused : {n k : ℕ} → refusedAt n k ≡ headLines texture s → (refusedAt n k ≡ sizeOnly (frontLines texture s)) × TableIf put (frontLines texture s) t
-  front-refused e = rw (← e) (refl, tt)
-
-  pub front-read :
-      {z : SizeFields} {u : List ℕ} {y : Lined SizeFields} → read z u ≡ headLines texture s → (y ≡ sizeOnly (tableLines z u)) × TableIf put (tableLines z u) t
-      → (y ≡ sizeOnly (frontLines texture s)) × TableIf put (frontLines texture s) t
-  front-read e h = rw (← e) h
-
--- ---- the records and the end
+use Rattle.record_front.specs.Told.{only, PutIf}
+use Rattle.record_front.proofs.PartLaws.{only-refused}
+use Rattle.record_lines.specs.Stored.{putOr}
 
 module _ {A : Type 0} (k : ℕ) (s : List ℕ) (at : ℕ) (x : Lined (List A)) where
   abbrev toEnd : Lined (List A)

@@ -13,9 +13,9 @@ use Rattle.record_text.specs.Told.{remaining}
 use Rattle.record_text.specs.Lines.{Lined, refusedAt, read, judged}
 use Rattle.record_file.specs.Text.{sizeFieldsOf}
 use Rattle.record_file.specs.Reading.{File, Aids, recordLinesBy, lastLinesBy, blocksIn, fileLines}
-use Rattle.record_lines.specs.declared.lines.Rows.{Rows}
-use Rattle.record_lines.specs.declared.loops.LinesRead.{LinesRead}
-use Rattle.record_lines.specs.declared.loops.LinesRead.the-variants as linesRead
+use Rattle.record_front.specs.declared.loops.LinesRead.{LinesRead}
+use Rattle.record_front.specs.declared.loops.LinesRead.the-variants as linesRead
+use Rattle.record_lines.specs.declared.rows.Rows.{Rows}
 use Rattle.record_lines.specs.declared.whole.LinesBack.{LinesBack}
 use Rattle.record_lines.specs.Stored.{Slices, putRecords}
 

@@ -3,11 +3,12 @@ ghost use mathlib.Core.Path.{_≡_};
 ghost use Prim.Native.Nat.{_≤_};
 ghost use lib.ListN.{length};
 ghost use Rattle.sheet.specs.Compose.{recordsLent};
-ghost use Rattle.record_lines.specs.Stored.{linesTold, only, Slices, putRecords, putOr};
+ghost use Rattle.record_front.specs.Told.{linesTold, only};
+ghost use Rattle.record_lines.specs.Stored.{Slices, putRecords, putOr};
 ghost use Rattle.record_lines.specs.Back.{lastRowLines};
-use crate::lines::Rows;
-use crate::loops::LinesRead;
-use crate::loops::read_records;
+use crate::rows::Rows;
+use crate::rows::read_records;
+use record_front::LinesRead;
 
 // Judges the lines of the records, and that nothing is after them. They are read into arrays of its own.
 fn judge_last(bytes: &[u8], list: &[u64], rows: Rows, textured: bool) -> LinesRead

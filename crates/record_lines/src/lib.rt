@@ -1,8 +1,6 @@
 // The lines of a record file (document 01, "House file"), each judged, and the records in them stored.
-mod front;
 mod last;
-mod lines;
-mod loops;
+mod rows;
 mod whole;
 
 pub use whole::LinesBack;

@@ -7,11 +7,11 @@ ghost use Rattle.sheet.specs.Compose.{recordsLent};
 ghost use Rattle.record_file.specs.Reading.{aidsOf, blocksIn};
 ghost use Rattle.record_lines.specs.Stored.{Slices};
 ghost use Rattle.record_lines.specs.Back.{readLines, linesBack, recordsBack, leaving, rowsOf, linesBy};
-use crate::front::read_front;
 use crate::last::read_last;
-use crate::lines::Rows;
-use crate::lines::SizeBack;
-use crate::loops::LinesRead;
+use crate::rows::Rows;
+use record_front::LinesRead;
+use record_front::SizeBack;
+use record_front::read_front;
 use record_text::Cursor;
 use record_text::SizeFields;
 use sheet::Sheet;
@@ -97,8 +97,10 @@ pub fn read_lines(
         return refused_lines(2, 0);
     }
     let textured = texture.len() > 0;
-    let mut table = [0u8; 256];
-    match read_front(bytes, texture.len(), &mut table) {
+    let front = read_front(bytes, texture.len());
+    let back = front.back;
+    let table = front.table;
+    match back {
         SizeBack::Refused(number, line) => refused_lines(number, line),
         SizeBack::Value(z, from) => {
             let rows = rows_of(z, count, from);

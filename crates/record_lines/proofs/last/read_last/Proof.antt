@@ -5,7 +5,8 @@ use mathlib.Core.Path.{sym, _∙_, ap}
 use mathlib.Core.List.{List}
 use Rattle.record_text.specs.declared.cursor.RecordFields.{RecordFields}
 use Rattle.record_text.specs.Lines.{Lined}
-use Rattle.record_lines.specs.Stored.{Slices, linesTold, putRecords}
+use Rattle.record_front.specs.Told.{linesTold}
+use Rattle.record_lines.specs.Stored.{Slices, putRecords}
 use Rattle.record_lines.specs.Back.{rowLines}
 use Rattle.record_lines.proofs.PartLaws.{last-kept, last-read}
 use Rattle.record_lines.proofs.last.read_last.Statement.{statement}
