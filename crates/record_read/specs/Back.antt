@@ -5,7 +5,7 @@ use lib.ListN.{length, getD, take, drop, replicate}
 use lib.Seq.{sets}
 use Rattle.choice.specs.Record.{Record}
 use Rattle.sheet.specs.declared.Sheet.{Sheet}
-use Rattle.sheet.specs.State.{stateOf, blocksOf, finished}
+use Rattle.sheet.specs.State.{stateOf, area, blocksOf, finished}
 use Rattle.sheet.specs.Place.{Material, materialOf, placedInTurn}
 use Rattle.record_text.specs.Lines.{Lined, refusedAt, read}
 use Rattle.record_file.specs.Text.{meant, noRecord}
@@ -22,6 +22,10 @@ materialIn A F = materialOf (A .list) (A .count) (F .table) (A .texture)
 
 abbrev pub recordIn : File → ℕ → Record
 recordIn F k = meant (getD (F .records) k noRecord)
+
+-- the samples that placing a record for each block in turn gives, on an empty sheet
+abbrev pub drawnOn : Sheet → Material → (ℕ → Record) → List ℕ
+drawnOn S M records = placedInTurn S M records (replicate (area S) 0) (blocksOf S)
 
 -- the sheet's samples in the first places: those of placing the records in turn; past them nothing changes
 unfoldable pub samplesBack : Aids → File → List ℕ → List ℕ

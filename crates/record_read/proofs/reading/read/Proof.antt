@@ -12,7 +12,6 @@ use Rattle.record_file.proofs.RoundTrip.{read-lengths}
 use Rattle.record_lines.specs.Stored.{Slices}
 use Rattle.record_lines.specs.Back.{readLines, linesBack, recordsBack, leaving}
 use Rattle.record_lines.proofs.BackLaws.{lines-passed}
-use Rattle.record_read.specs.Back.{fileBack, samplesBack}
 use Rattle.record_read.proofs.BackLaws.{read-short, read-passed, all-refused, fits, blocks-fit, blocks-room, accepted, drawn, back-is}
 use Rattle.record_read.proofs.reading.read.Statement.{statement}
 use Rattle.record_read.proofs.reading.read.Tie as tie
