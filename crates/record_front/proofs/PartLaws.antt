@@ -2,7 +2,7 @@
 use Prim.Native.Nat.{ℕ, _+_}
 use mathlib.Core.Path.{_≡_, refl, sym, _∙_, ap}
 use mathlib.Core.List.{List}
-use lib.ListN.{replicate}
+use lib.ListN.{drop, replicate}
 use lib.Seq.{sets}
 use Rattle.record_text.specs.declared.cursor.SizeFields.{SizeFields}
 use Rattle.record_text.specs.Parsed.{Parsed, badForm, found, exactly}
@@ -11,7 +11,7 @@ use Rattle.record_text.specs.Lines.{Lined, refusedAt, read, line, linesThen, no
 use Rattle.record_text.proofs.LinesLaws.{refused-read}
 use Rattle.record_file.specs.Reading.{headLines, valueLines, tableLines, frontLines}
 use Rattle.record_front.specs.declared.front.Front.{Front}
-use Rattle.record_front.specs.Told.{sizeBackTold, only, sizeOnly, PutIf, tableBack, titleLines, arrayBack, frontRefused}
+use Rattle.record_front.specs.Told.{only, PutIf, titleLines, frontRefused, frontOf, FrontBy, FrontIs}
 
 -- ---- what lines that were read, without their values, were
 
@@ -34,54 +34,39 @@ only-read (read a s) u e = let p : u ≡ s = cc in record { value = a; is = ap (
 -- ---- the table and the title after it
 
 -- the title, in its form or in another
-module _ (bytes : List ℕ) (z : SizeFields) (array u : List ℕ) where
-  pub title-read : {v : List ℕ} → exactly recordTitle u ≡ found tt v → (read z v ≡ titleLines z u) × (array ≡ arrayBack array (titleLines z u))
-  title-read e = rw e (refl, refl)
+module _ (s : List ℕ) (z : SizeFields) (array u : List ℕ) where
+  pub title-read : (at : ℕ) → exactly recordTitle u ≡ found tt (drop at s) → FrontBy (λ t. t) s (titleLines z array u) (frontOf z at array)
+  title-read at e = rw e (refl, refl)
 
-  pub title-bad :
-      {r : Front} → exactly recordTitle u ≡ badForm → r ≡ frontRefused 9 (4 + z .values)
-      → (sizeBackTold bytes (r .back) ≡ titleLines z u) × (r .table ≡ arrayBack array (titleLines z u))
-  title-bad e q = rw (e, q) (refl, refl)
+  pub title-bad : {r : Front} → exactly recordTitle u ≡ badForm → r ≡ frontRefused 9 (4 + z .values) → FrontBy (λ t. t) s (titleLines z array u) r
+  title-bad e q = rw e q
 
--- the lines after a table's values, from the title on
-abbrev after : SizeFields → List ℕ → Parsed (Unit {0}) → Lined (SizeFields × List ℕ)
-after z l p = line (4 + z .values) p noMeaning (λ w v. read (z, l) v)
+module _ (s : List ℕ) (z : SizeFields) (u : List ℕ) {r : Front} where
+  pub table-refused : {n k : ℕ} → refusedAt n k ≡ only (valueLines (z .values) 4 u) → r ≡ frontRefused n k → FrontIs s (tableLines z u) r
+  table-refused e q = rw (only-refused (valueLines (z .values) 4 u) e) q
 
-module _ (bytes : List ℕ) (z : SizeFields) (s : List ℕ) (r : Front) where
-  pub table-refused :
-      {n k : ℕ} → refusedAt n k ≡ only (valueLines (z .values) 4 s) → r ≡ frontRefused n k
-      → (sizeBackTold bytes (r .back) ≡ sizeOnly (tableLines z s)) × (r .table ≡ tableBack (tableLines z s))
-  table-refused e q = rw (only-refused (valueLines (z .values) 4 s) e, q) (refl, refl)
-
+module _ (s : List ℕ) (z : SizeFields) (u : List ℕ) (r : Front) where
   pub table-read :
-      (array : List ℕ) {u : List ℕ} → read tt u ≡ only (valueLines (z .values) 4 s) → PutIf (sets (replicate 256 0) 0) (valueLines (z .values) 4 s) array
-      → sizeBackTold bytes (r .back) ≡ titleLines z u → r .table ≡ arrayBack array (titleLines z u)
-      → (sizeBackTold bytes (r .back) ≡ sizeOnly (tableLines z s)) × (r .table ≡ tableBack (tableLines z s))
-  table-read array {u} e h q t = go (valueLines (z .values) 4 s) e h
+      (array : List ℕ) {v : List ℕ} → read tt v ≡ only (valueLines (z .values) 4 u) → PutIf (sets (replicate 256 0) 0) (valueLines (z .values) 4 u) array
+      → FrontBy (λ t. t) s (titleLines z array v) r → FrontIs s (tableLines z u) r
+  table-read array {v} e h q = go (valueLines (z .values) 4 u) e h
     where
       title : (l : List ℕ) → array ≡ sets (replicate 256 0) 0 l → (p : Parsed (Unit {0}))
-          → sizeBackTold bytes (r .back) ≡ line (4 + z .values) p noMeaning (λ w v. read z v)
-          → r .table ≡ arrayBack array (line (4 + z .values) p noMeaning (λ w v. read z v))
-          → (sizeBackTold bytes (r .back) ≡ sizeOnly (after z l p)) × (r .table ≡ tableBack (after z l p))
-      title l h badForm q t = (q, t)
-      title l h (found w v) q t = (q, t ∙ h)
+          → FrontBy (λ t. t) s (line (4 + z .values) p noMeaning (λ _ w. read (z, array) w)) r
+          → FrontIs s (line (4 + z .values) p noMeaning (λ _ w. read (z, l) w)) r
+      title l h badForm q = q
+      title l h (found _ w) q = (q .0, q .1 ∙ ap (frontOf z (r .at)) h)
 
-      go : (x : Lined (List ℕ)) → read tt u ≡ only x → PutIf (sets (replicate 256 0) 0) x array
-          → (sizeBackTold bytes (r .back) ≡ sizeOnly (linesThen x (λ l v. after z l (exactly recordTitle v))))
-          × (r .table ≡ tableBack (linesThen x (λ l v. after z l (exactly recordTitle v))))
+      go : (x : Lined (List ℕ)) → read tt v ≡ only x → PutIf (sets (replicate 256 0) 0) x array
+          → FrontIs s (linesThen x (λ l w. line (4 + z .values) (exactly recordTitle w) noMeaning (λ _ y. read (z, l) y))) r
       go (refusedAt n k) e h = refused-read (sym e)
-      go (read l v) e h = let p : u ≡ v = cc in title l h (exactly recordTitle v) (rw p at q) (rw p at t)
+      go (read l w) e h = let p : v ≡ w = cc in title l h (exactly recordTitle w) (rw p at q)
 
 -- ---- the lines before the records
 
 module _ (texture : ℕ) (s : List ℕ) (r : Front) where
-  pub front-refused :
-      {n k : ℕ} → refusedAt n k ≡ headLines texture s → r ≡ frontRefused n k
-      → (sizeBackTold s (r .back) ≡ sizeOnly (frontLines texture s)) × (r .table ≡ tableBack (frontLines texture s))
-  front-refused e q = rw (← e, q) (refl, refl)
+  pub front-refused : {n k : ℕ} → refusedAt n k ≡ headLines texture s → r ≡ frontRefused n k → FrontIs s (frontLines texture s) r
+  front-refused e q = rw (← e) q
 
-  pub front-read :
-      {z : SizeFields} {u : List ℕ} → read z u ≡ headLines texture s
-      → (sizeBackTold s (r .back) ≡ sizeOnly (tableLines z u)) × (r .table ≡ tableBack (tableLines z u))
-      → (sizeBackTold s (r .back) ≡ sizeOnly (frontLines texture s)) × (r .table ≡ tableBack (frontLines texture s))
+  pub front-read : {z : SizeFields} {u : List ℕ} → read z u ≡ headLines texture s → FrontIs s (tableLines z u) r → FrontIs s (frontLines texture s) r
   front-read e h = rw (← e) h

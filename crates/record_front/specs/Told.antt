@@ -1,14 +1,15 @@
--- What each case of the code's answers says of lines that were read, and the table's array. Assumes nothing.
+-- What the code's answers say of lines that were read. Assumes nothing.
 use Prim.Native.Nat.{ℕ, _+_}
 use mathlib.Core.Path.{_≡_}
 use mathlib.Core.List.{List}
-use lib.ListN.{replicate}
+use lib.ListN.{drop, replicate}
 use lib.Seq.{sets}
 use Rattle.record_text.specs.declared.cursor.SizeFields.{SizeFields}
 use Rattle.record_text.specs.Parsed.{exactly}
 use Rattle.record_text.specs.Line.{recordTitle}
 use Rattle.record_text.specs.Told.{remaining}
 use Rattle.record_text.specs.Lines.{Lined, refusedAt, read, line, linesThen, noMeaning}
+use Rattle.record_file.specs.Text.{sizeFieldsOf}
 use Rattle.record_front.specs.declared.front.Front.{Front}
 use Rattle.record_front.specs.declared.lines.ValueRead.{ValueRead}
 use Rattle.record_front.specs.declared.lines.ValueRead.the-variants as valueRead
@@ -34,27 +35,34 @@ linesTold s (linesRead.Refused n k) = refusedAt n k
 abbrev pub only : {A : Type 0} → Lined A → Lined (Unit {0})
 only x = linesThen x λ a s. read tt s
 
-abbrev pub sizeOnly : Lined (SizeFields × List ℕ) → Lined SizeFields
-sizeOnly x = linesThen x λ f s. read (f .0) s
-
 -- what a lent x is after lines were read; where they are refused nothing is said of it
 abbrev pub PutIf : {A X : Type 0} → (List A → X) → Lined (List A) → X → Type 0
 PutIf put (refusedAt n k) x = Unit {0}
 PutIf put (read l s) x = x ≡ put l
 
--- the array of the table: its values before zeros; zeros where a line is refused
-abbrev pub tableBack : Lined (SizeFields × List ℕ) → List ℕ
-tableBack (refusedAt n k) = replicate 256 0
-tableBack (read f s) = sets (replicate 256 0) 0 (f .1)
+-- the title after the table values, which an array holds
+abbrev pub titleLines : SizeFields → List ℕ → List ℕ → Lined (SizeFields × List ℕ)
+titleLines z array s = line (4 + z .values) (exactly recordTitle s) noMeaning λ _ s. read (z, array) s
 
--- the title after the table values, and the array of the table after it
-abbrev pub titleLines : SizeFields → List ℕ → Lined SizeFields
-titleLines z s = line (4 + z .values) (exactly recordTitle s) noMeaning λ _ s. read z s
+-- ---- the call
 
-abbrev pub arrayBack : List ℕ → Lined SizeFields → List ℕ
-arrayBack array (refusedAt n k) = replicate 256 0
-arrayBack array (read z s) = array
-
--- the answer where a line is refused
+-- the answer where a line is refused, and where none is: the size line's numbers, a place and the array of the table
 abbrev pub frontRefused : ℕ → ℕ → Front
-frontRefused n k = record { back = sizeBack.Refused n k; table = replicate 256 0 }
+frontRefused n k = record { refusal = n; line = k; n = 0; width = 0; height = 0; values = 0; at = 0; table = replicate 256 0 }
+
+abbrev pub frontOf : SizeFields → ℕ → List ℕ → Front
+frontOf z at array =
+    record { refusal = 0; line = 0; n = z .n; width = z .width; height = z .height; values = z .values; at = at; table = array }
+
+-- the answer r after the bytes s were read: its place is that of what remains, and its array is made of the table
+abbrev pub FrontBy : (List ℕ → List ℕ) → List ℕ → Lined (SizeFields × List ℕ) → Front → Type 0
+FrontBy made s (refusedAt n k) r = r ≡ frontRefused n k
+FrontBy made s (read f u) r = (drop (r .at) s ≡ u) × (r ≡ frontOf (f .0) (r .at) (made (f .1)))
+
+-- the array has the table's values before zeros
+abbrev pub FrontIs : List ℕ → Lined (SizeFields × List ℕ) → Front → Type 0
+FrontIs = FrontBy (sets (replicate 256 0) 0)
+
+-- the size line's numbers in an answer
+abbrev pub frontSize : Front → SizeFields
+frontSize r = sizeFieldsOf (r .n) (r .width) (r .height) (r .values)

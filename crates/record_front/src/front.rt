@@ -3,7 +3,7 @@ ghost use mathlib.Core.Path.{_≡_};
 ghost use Prim.Native.Nat.{_≤_};
 ghost use Rattle.record_text.specs.Told.{remaining};
 ghost use Rattle.record_file.specs.Reading.{tableLines, frontLines};
-ghost use Rattle.record_front.specs.Told.{sizeBackTold, sizeOnly, titleLines, arrayBack, tableBack, frontRefused};
+ghost use Rattle.record_front.specs.Told.{titleLines, frontRefused, FrontBy, FrontIs};
 use crate::lines::SizeBack;
 use crate::lines::read_head;
 use crate::loops::LinesRead;
@@ -13,19 +13,31 @@ use record_text::SizeFields;
 use record_text::TextRead;
 use record_text::read_record_title;
 
-// What `read_front` answers: the size line's numbers and the place after the lines, or a refusal and its line; and the table.
+// What `read_front` answers: the number of a refusal (0 for none) and its line; where there is none, the size line's numbers, the place
+// after the lines, and the table.
 pub struct Front {
-    pub back: SizeBack,
+    pub refusal: u8,
+    pub line: u32,
+    pub n: u32,
+    pub width: u32,
+    pub height: u32,
+    pub values: u32,
+    pub at: usize,
     pub table: [u8; 256],
 }
 
 // The answer where a line is refused.
-fn refused_front(number: u8, line: u32) -> Front
-    ensures { λ r. ⌜ r ≡ frontRefused number line ⌝ }
+fn refused_front(refusal: u8, line: u32) -> Front
+    ensures { λ r. ⌜ r ≡ frontRefused refusal line ⌝ }
 {
-    let back = SizeBack::Refused(number, line);
     Front {
-        back,
+        refusal,
+        line,
+        n: 0,
+        width: 0,
+        height: 0,
+        values: 0,
+        at: 0,
         table: [0u8; 256],
     }
 }
@@ -33,14 +45,19 @@ fn refused_front(number: u8, line: u32) -> Front
 // The title after the table values.
 fn title_line(bytes: &[u8], z: SizeFields, from: Cursor, table: [u8; 256]) -> Front
     requires { ⌜ z .values ≤ 256 ⌝ }
-    ensures answered { λ r. ⌜ sizeBackTold (now (bytes .entry)) (r .back) ≡ titleLines z (remaining (now (bytes .entry)) from) ⌝ }
-    ensures held { λ r. ⌜ r .table ≡ arrayBack table (titleLines z (remaining (now (bytes .entry)) from)) ⌝ }
+    ensures { λ r. ⌜ FrontBy (λ t. t) (now (bytes .entry)) (titleLines z table (remaining (now (bytes .entry)) from)) r ⌝ }
 {
     match read_record_title(bytes, from) {
-        TextRead::Past(next) => {
-            let back = SizeBack::Value(z, next);
-            Front { back, table }
-        }
+        TextRead::Past(next) => Front {
+            refusal: 0,
+            line: 0,
+            n: z.n,
+            width: z.width,
+            height: z.height,
+            values: z.values,
+            at: next.at,
+            table,
+        },
         TextRead::Bad => refused_front(9, 4 + z.values),
     }
 }
@@ -48,8 +65,7 @@ fn title_line(bytes: &[u8], z: SizeFields, from: Cursor, table: [u8; 256]) -> Fr
 // The table values and the title after them.
 fn read_table(bytes: &[u8], z: SizeFields, from: Cursor) -> Front
     requires { ⌜ z .values ≤ 256 ⌝ }
-    ensures answered { λ r. ⌜ sizeBackTold (now (bytes .entry)) (r .back) ≡ sizeOnly (tableLines z (remaining (now (bytes .entry)) from)) ⌝ }
-    ensures held { λ r. ⌜ r .table ≡ tableBack (tableLines z (remaining (now (bytes .entry)) from)) ⌝ }
+    ensures { λ r. ⌜ FrontIs (now (bytes .entry)) (tableLines z (remaining (now (bytes .entry)) from)) r ⌝ }
 {
     let mut table = [0u8; 256];
     match read_values(bytes, from, z.values, &mut table) {
@@ -58,10 +74,9 @@ fn read_table(bytes: &[u8], z: SizeFields, from: Cursor) -> Front
     }
 }
 
-// Reads the lines before the records: the size line's numbers and the table; or a refusal and its line, and a table of zeros.
+// Reads the lines before the records: the size line's numbers and the table; or a refusal and its line, and zeros.
 pub fn read_front(bytes: &[u8], texture: usize) -> Front
-    ensures answered { λ r. ⌜ sizeBackTold (now (bytes .entry)) (r .back) ≡ sizeOnly (frontLines texture (now (bytes .entry))) ⌝ }
-    ensures held { λ r. ⌜ r .table ≡ tableBack (frontLines texture (now (bytes .entry))) ⌝ }
+    ensures { λ r. ⌜ FrontIs (now (bytes .entry)) (frontLines texture (now (bytes .entry))) r ⌝ }
 {
     match read_head(bytes, texture) {
         SizeBack::Refused(number, line) => refused_front(number, line),

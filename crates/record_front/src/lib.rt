@@ -5,5 +5,4 @@ mod loops;
 
 pub use front::Front;
 pub use front::read_front;
-pub use lines::SizeBack;
 pub use loops::LinesRead;

@@ -25,8 +25,8 @@ pub(crate) enum ValueRead {
     Refused(u8, u32),
 }
 
-// The size line's numbers and a place after a later line, or a refusal and its line.
-pub enum SizeBack {
+// The size line's numbers and the place after the third line, or a refusal and its line.
+pub(crate) enum SizeBack {
     Value(SizeFields, Cursor),
     Refused(u8, u32),
 }

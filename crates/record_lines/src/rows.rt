@@ -29,7 +29,7 @@ enum OneRead {
 // The records of a file: where the line of the first starts and its number, how many there are, and the size and the count that each is
 // judged with.
 pub(crate) struct Rows {
-    pub from: Cursor,
+    pub at: usize,
     pub first: u32,
     pub many: usize,
     pub n: usize,
@@ -96,7 +96,7 @@ pub(crate) fn read_records(
     ensures answered { λ r. ⌜ linesTold (now (bytes .entry)) r ≡ only (rowLines rows (now (list .entry)) textured (now (bytes .entry))) ⌝ }
     ensures stored { λ r. ⌜ PutIf (putRecords (now (kinds .entry), (now (entries .entry), (now (offs0 .entry), now (offs1 .entry))))) (rowLines rows (now (list .entry)) textured (now (bytes .entry))) (now (kinds .exit), (now (entries .exit), (now (offs0 .exit), now (offs1 .exit)))) ⌝ }
 {
-    let mut next = rows.from;
+    let mut next = Cursor { at: rows.at };
     let mut i = 0;
     while i < rows.many {
         let one = one_record(bytes, next, list, rows, textured, rows.first + i as u32);

@@ -5,15 +5,14 @@ ghost use lib.ListN.{length};
 ghost use Rattle.record_text.specs.Lines.{refusedAt};
 ghost use Rattle.sheet.specs.Compose.{recordsLent};
 ghost use Rattle.record_file.specs.Reading.{aidsOf, blocksIn};
+ghost use Rattle.record_front.specs.Told.{frontSize};
 ghost use Rattle.record_lines.specs.Stored.{Slices};
 ghost use Rattle.record_lines.specs.Back.{readLines, linesBack, recordsBack, leaving, rowsOf, linesBy};
 use crate::last::read_last;
 use crate::rows::Rows;
+use record_front::Front;
 use record_front::LinesRead;
-use record_front::SizeBack;
 use record_front::read_front;
-use record_text::Cursor;
-use record_text::SizeFields;
 use sheet::Sheet;
 use sheet::records_lent;
 
@@ -21,7 +20,10 @@ use sheet::records_lent;
 pub struct LinesBack {
     pub refusal: u8,
     pub line: u32,
-    pub size: SizeFields,
+    pub n: u32,
+    pub width: u32,
+    pub height: u32,
+    pub values: u32,
     pub table: [u8; 256],
 }
 
@@ -32,46 +34,48 @@ fn refused_lines(refusal: u8, line: u32) -> LinesBack
     LinesBack {
         refusal,
         line,
-        size: SizeFields {
-            n: 0,
-            width: 0,
-            height: 0,
-            values: 0,
-        },
+        n: 0,
+        width: 0,
+        height: 0,
+        values: 0,
         table: [0u8; 256],
     }
 }
 
-// The records that a size line tells of.
-fn rows_of(z: SizeFields, count: usize, from: Cursor) -> Rows
-    requires { ⌜ (z .values ≤ 256) × (blocksIn z ≤ 1024) ⌝ }
-    ensures { λ r. ⌜ r ≡ rowsOf z count from ⌝ }
+// The records that the lines before them tell of.
+fn rows_of(front: Front, count: usize) -> Rows
+    requires { ⌜ (front .values ≤ 256) × (blocksIn (frontSize front) ≤ 1024) ⌝ }
+    ensures { λ r. ⌜ r ≡ rowsOf front count ⌝ }
 {
     let sheet = Sheet {
-        n: z.n,
-        width: z.width,
-        height: z.height,
+        n: front.n,
+        width: front.width,
+        height: front.height,
         placed: 0,
     };
     Rows {
-        from,
-        first: 5 + z.values,
+        at: front.at,
+        first: 5 + front.values,
         many: sheet.blocks() as usize,
-        n: z.n as usize,
+        n: front.n as usize,
         count,
     }
 }
 
 // The answer after the lines before the records were read.
-fn told_lines(last: LinesRead, z: SizeFields, table: [u8; 256]) -> LinesBack
-    ensures { λ r. ⌜ r ≡ linesBy last z table ⌝ }
+fn told_lines(last: LinesRead, front: Front) -> LinesBack
+    ensures { λ r. ⌜ r ≡ linesBy last front ⌝ }
 {
+    let table = front.table;
     match last {
         LinesRead::Refused(number, line) => refused_lines(number, line),
         LinesRead::Done(_) => LinesBack {
             refusal: 0,
             line: 0,
-            size: z,
+            n: front.n,
+            width: front.width,
+            height: front.height,
+            values: front.values,
             table,
         },
     }
@@ -98,14 +102,10 @@ pub fn read_lines(
     }
     let textured = texture.len() > 0;
     let front = read_front(bytes, texture.len());
-    let back = front.back;
-    let table = front.table;
-    match back {
-        SizeBack::Refused(number, line) => refused_lines(number, line),
-        SizeBack::Value(z, from) => {
-            let rows = rows_of(z, count, from);
-            let last = read_last(bytes, list, rows, textured, kinds, entries, offs0, offs1);
-            told_lines(last, z, table)
-        }
+    if front.refusal != 0 {
+        return refused_lines(front.refusal, front.line);
     }
+    let rows = rows_of(front, count);
+    let last = read_last(bytes, list, rows, textured, kinds, entries, offs0, offs1);
+    told_lines(last, front)
 }

@@ -11,6 +11,7 @@ use lib.Seq.{sets, sets-eq, length-sets, take-at}
 use Rattle.sheet.specs.State.{after}
 use Rattle.sheet.specs.Place.{materialOf, placeRefusal, placedInTurn}
 use Rattle.sheet.specs.Compose.{recordsLent}
+use Rattle.record_text.specs.declared.cursor.SizeFields.{SizeFields}
 use Rattle.record_text.specs.Lines.{Lined, refusedAt, read}
 use Rattle.record_file.specs.Text.{meant, recordAt}
 use Rattle.record_file.specs.Reading.{File, fileOf, Aids, blocksIn, fileLines, readLengthsOk, readFile}
@@ -18,7 +19,7 @@ use Rattle.record_file.proofs.FileLaws.{size-small, file-wrote}
 use Rattle.record_file.proofs.LineBounds.{blocks-few}
 use Rattle.record_lines.specs.declared.whole.LinesBack.{LinesBack}
 use Rattle.record_lines.specs.Stored.{Slices, putRecords}
-use Rattle.record_lines.specs.Back.{linesBack, recordsBack, leaving}
+use Rattle.record_lines.specs.Back.{linesBack, linesSize, recordsBack, leaving}
 use Rattle.record_read.specs.declared.reading.FileBack.{FileBack}
 use Rattle.record_read.specs.Back.{emptySheet, materialIn, recordIn, samplesBack, fileBack, sheetOf, tableOf, backOf}
 use Rattle.record_read.proofs.RestLaws.{record-back, lent-same, in-turn-ext, headerOf, file-accepted}
@@ -98,12 +99,24 @@ module _
     file : Drawable A (fileIn x)
     file = drawable A s x read-as inside few
 
-    size-is : b .size ≡ headerOf (fileIn x)
-    size-is = ap (λ (y : LinesBack). y .size) told ∙ go x
+    size-is : linesSize b ≡ headerOf (fileIn x)
+    size-is = ap linesSize told ∙ go x
       where
-        go : (x : Lined File) → linesBack x .size ≡ headerOf (fileIn x)
+        go : (x : Lined File) → linesSize (linesBack x) ≡ headerOf (fileIn x)
         go (refusedAt n k) = refl
         go (read F u) = refl
+
+    n-is : b .n ≡ fileIn x .n
+    n-is = ap (λ (z : SizeFields). z .n) size-is
+
+    width-is : b .width ≡ fileIn x .width
+    width-is = ap (λ (z : SizeFields). z .width) size-is
+
+    height-is : b .height ≡ fileIn x .height
+    height-is = ap (λ (z : SizeFields). z .height) size-is
+
+    values-is : b .values ≡ length (fileIn x .table)
+    values-is = ap (λ (z : SizeFields). z .values) size-is
 
     array-is : b .table ≡ sets (replicate 256 0) 0 (fileIn x .table)
     array-is = ap (λ (y : LinesBack). y .table) told ∙ go x
@@ -113,18 +126,18 @@ module _
         go (read F u) = refl
 
     -- the table and the samples have room
-    pub fits : {samples : ℕ} → 16384 ≤ samples → (b .size .values ≤ length (b .table)) × (b .size .width * b .size .height ≤ samples) × (b .size .width ≤ 128) × (b .size .height ≤ 128)
+    pub fits : {samples : ℕ} → 16384 ≤ samples → (b .values ≤ length (b .table)) × (b .width * b .height ≤ samples) × (b .width ≤ 128) × (b .height ≤ 128)
     fits l =
         let F = fileIn x in
         let area = mul-le-mul {n₁ = F .width} {m₁ = F .height} {n₂ = 128} {m₂ = 128} (file .width) (file .height) in
         let t : length (F .table) ≤ length (sets (replicate 256 0) 0 (F .table)) = omega (arith, length-sets (replicate 256 0) 0 (F .table), length-replicate {A = ℕ} 256 0, file .table) in
-        rw (size-is, array-is) (t, le-trans area l, file .width, file .height)
+        rw (width-is, height-is, values-is, array-is) (t, le-trans area l, file .width, file .height)
 
-    pub blocks-fit : blocksIn (b .size) ≤ 1024
+    pub blocks-fit : blocksIn (linesSize b) ≤ 1024
     blocks-fit = rw size-is (file .blocks)
 
     table-is : tableOf b ≡ fileIn x .table
-    table-is = rw (size-is, array-is) (table-first (fileIn x .table) (file .table))
+    table-is = rw (values-is, array-is) (table-first (fileIn x .table) (file .table))
 
     -- the answer
     pub back-is : backOf b ≡ fileBack x
@@ -146,31 +159,31 @@ module _
             go (read F u) = refl
 
         -- there is room for every record
-        pub blocks-room : blocksIn (b .size) ≤ recordsLent (length k) (length e) (length a) (length o)
+        pub blocks-room : blocksIn (linesSize b) ≤ recordsLent (length k) (length e) (length a) (length o)
         blocks-room = rw (lent-same (fileIn x .records) old stored) (le-trans blocks-fit room)
 
         -- the record at each place
-        record-is : (i : ℕ) → i < blocksIn (b .size) → meant (recordAt k e a o i) ≡ recordIn (fileIn x) i
+        record-is : (i : ℕ) → i < blocksIn (linesSize b) → meant (recordAt k e a o i) ≡ recordIn (fileIn x) i
         record-is i l =
             ap meant
             (record-back (fileIn x .records) old stored (le-trans (rw (file .whole) (file .blocks)) room) i (rw (file .whole) (rw size-is at l)))
 
         -- each is accepted for its block
         pub accepted :
-            (i : ℕ) → i < blocksIn (b .size)
-            → placeRefusal (after i (sheetOf b)) (b .size .width * b .size .height) (materialOf (A .list) (A .count) (tableOf b) (A .texture)) (meant (recordAt k e a o i)) ≡ 0
-        accepted i l = rw (table-is, record-is i l, size-is) (file .each i (rw size-is at l))
+            (i : ℕ) → i < blocksIn (linesSize b)
+            → placeRefusal (after i (sheetOf b)) (b .width * b .height) (materialOf (A .list) (A .count) (tableOf b) (A .texture)) (meant (recordAt k e a o i)) ≡ 0
+        accepted i l = rw (table-is, record-is i l, n-is, width-is, height-is) (file .each i (rw size-is at l))
 
         -- the samples afterwards
         pub drawn :
             (t : List ℕ) {new : List ℕ}
-            → new ≡ placedInTurn (sheetOf b) (materialOf (A .list) (A .count) (tableOf b) (A .texture)) (λ i. meant (recordAt k e a o i)) (take (b .size .width * b .size .height) t) (blocksIn (b .size)) ++ drop (b .size .width * b .size .height) t
+            → new ≡ placedInTurn (sheetOf b) (materialOf (A .list) (A .count) (tableOf b) (A .texture)) (λ i. meant (recordAt k e a o i)) (take (b .width * b .height) t) (blocksIn (linesSize b)) ++ drop (b .width * b .height) t
             → new ≡ leaving x (λ F. samplesBack A F t) t
         drawn t {new} q =
             q
-            ∙ ap (λ (l : List ℕ). l ++ drop (b .size .width * b .size .height) t)
-            (in-turn-ext (sheetOf b) (materialOf (A .list) (A .count) (tableOf b) (A .texture)) (λ i. meant (recordAt k e a o i)) (recordIn (fileIn x)) (take (b .size .width * b .size .height) t) (blocksIn (b .size)) record-is)
-            ∙ rw (table-is, size-is) (go x)
+            ∙ ap (λ (l : List ℕ). l ++ drop (b .width * b .height) t)
+            (in-turn-ext (sheetOf b) (materialOf (A .list) (A .count) (tableOf b) (A .texture)) (λ i. meant (recordAt k e a o i)) (recordIn (fileIn x)) (take (b .width * b .height) t) (blocksIn (linesSize b)) record-is)
+            ∙ rw (table-is, n-is, width-is, height-is) (go x)
           where
             go : (x : Lined File)
                 → placedInTurn (emptySheet (fileIn x)) (materialIn A (fileIn x)) (recordIn (fileIn x)) (take (fileIn x .width * fileIn x .height) t) (blocksIn (headerOf (fileIn x))) ++ drop (fileIn x .width * fileIn x .height) t

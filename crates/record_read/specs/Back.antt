@@ -41,10 +41,10 @@ fileBack (read F s) =
 
 -- the same of the lines' answer, with the sheet that its records are placed on and the table
 abbrev pub sheetOf : LinesBack → Sheet
-sheetOf b = stateOf (b .size .n) (b .size .width) (b .size .height) 0
+sheetOf b = stateOf (b .n) (b .width) (b .height) 0
 
 abbrev pub tableOf : LinesBack → List ℕ
-tableOf b = take (b .size .values) (b .table)
+tableOf b = take (b .values) (b .table)
 
 abbrev pub backOf : LinesBack → FileBack
-backOf b = record { refusal = b .refusal; line = b .line; sheet = finished (sheetOf b); values = b .size .values; table = b .table }
+backOf b = record { refusal = b .refusal; line = b .line; sheet = finished (sheetOf b); values = b .values; table = b .table }

@@ -10,7 +10,7 @@ ghost use Rattle.sheet.specs.Place.{materialOf, placedSamples, placeRefusal, pl
 ghost use Rattle.record_file.specs.Text.{meant, recordAt};
 ghost use Rattle.record_file.specs.Reading.{aidsOf, readFile, blocksIn, readLengthsOk};
 ghost use Rattle.record_lines.specs.Stored.{Slices};
-ghost use Rattle.record_lines.specs.Back.{recordsBack, leaving};
+ghost use Rattle.record_lines.specs.Back.{linesSize, recordsBack, leaving};
 ghost use Rattle.record_read.specs.Back.{fileBack, samplesBack, sheetOf, tableOf, backOf};
 use pattern::count_ok;
 use record_file::record_at;
@@ -130,19 +130,18 @@ fn fill(
     offs0: &[i32],
     offs1: &[i32],
 )
-    requires { ⌜ (lines .size .values ≤ length (lines .table)) × (lines .size .width * lines .size .height ≤ length (now samples)) × (lines .size .width ≤ 128) × (lines .size .height ≤ 128) ⌝ }
-    requires { ⌜ blocksIn (lines .size) ≤ recordsLent (length (now kinds)) (length (now entries)) (length (now offs0)) (length (now offs1)) ⌝ }
-    requires { ⌜ ((i : ℕ) → i < blocksIn (lines .size) → placeRefusal (after i (sheetOf lines)) (lines .size .width * lines .size .height) (materialOf (now list) count (tableOf lines) (now texture)) (meant (recordAt (now kinds) (now entries) (now offs0) (now offs1) i)) ≡ 0) ⌝ }
-    ensures { λ _. ⌜ now (samples .exit) ≡ placedInTurn (sheetOf lines) (materialOf (now (list .entry)) count (tableOf lines) (now (texture .entry))) (λ i. meant (recordAt (now (kinds .entry)) (now (entries .entry)) (now (offs0 .entry)) (now (offs1 .entry)) i)) (take (lines .size .width * lines .size .height) (now (samples .entry))) (blocksIn (lines .size)) ++ drop (lines .size .width * lines .size .height) (now (samples .entry)) ⌝ }
+    requires { ⌜ (lines .values ≤ length (lines .table)) × (lines .width * lines .height ≤ length (now samples)) × (lines .width ≤ 128) × (lines .height ≤ 128) ⌝ }
+    requires { ⌜ blocksIn (linesSize lines) ≤ recordsLent (length (now kinds)) (length (now entries)) (length (now offs0)) (length (now offs1)) ⌝ }
+    requires { ⌜ ((i : ℕ) → i < blocksIn (linesSize lines) → placeRefusal (after i (sheetOf lines)) (lines .width * lines .height) (materialOf (now list) count (tableOf lines) (now texture)) (meant (recordAt (now kinds) (now entries) (now offs0) (now offs1) i)) ≡ 0) ⌝ }
+    ensures { λ _. ⌜ now (samples .exit) ≡ placedInTurn (sheetOf lines) (materialOf (now (list .entry)) count (tableOf lines) (now (texture .entry))) (λ i. meant (recordAt (now (kinds .entry)) (now (entries .entry)) (now (offs0 .entry)) (now (offs1 .entry)) i)) (take (lines .width * lines .height) (now (samples .entry))) (blocksIn (linesSize lines)) ++ drop (lines .width * lines .height) (now (samples .entry)) ⌝ }
 {
-    let z = lines.size;
     let table = lines.table;
-    let area = z.width as usize * z.height as usize;
-    let values = z.values as usize;
+    let area = lines.width as usize * lines.height as usize;
+    let values = lines.values as usize;
     let sheet = Sheet {
-        n: z.n,
-        width: z.width,
-        height: z.height,
+        n: lines.n,
+        width: lines.width,
+        height: lines.height,
         placed: 0,
     };
     place_all(
@@ -162,27 +161,26 @@ fn fill(
 
 // The answer after the lines were read.
 fn told_back(lines: LinesBack) -> FileBack
-    requires { ⌜ blocksIn (lines .size) ≤ 1024 ⌝ }
+    requires { ⌜ blocksIn (linesSize lines) ≤ 1024 ⌝ }
     ensures { λ r. ⌜ r ≡ backOf lines ⌝ }
 {
-    let z = lines.size;
     let table = lines.table;
     let sheet = Sheet {
-        n: z.n,
-        width: z.width,
-        height: z.height,
+        n: lines.n,
+        width: lines.width,
+        height: lines.height,
         placed: 0,
     };
     FileBack {
         refusal: lines.refusal,
         line: lines.line,
         sheet: Sheet {
-            n: z.n,
-            width: z.width,
-            height: z.height,
+            n: lines.n,
+            width: lines.width,
+            height: lines.height,
             placed: sheet.blocks() as u32,
         },
-        values: z.values,
+        values: lines.values,
         table,
     }
 }

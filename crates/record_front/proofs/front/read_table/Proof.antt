@@ -28,14 +28,14 @@ title-line-requires c κs = search needs
 returns : tie.Need-returns
 returns c =
     let a = c .before .before .before .before .before .before .before .before .args in
-    table-refused (a .bytes .now) (a .z) (remaining (a .bytes .now) (a .from)) (c .refused-front .result) (sym (ap (linesTold _) (c .before .before .number .given .1)) ∙ c .before .before .before .before .before .read-values .ensures .0) (c .refused-front .ensures)
+    table-refused (a .bytes .now) (a .z) (remaining (a .bytes .now) (a .from)) (sym (ap (linesTold _) (c .before .before .number .given .1)) ∙ c .before .before .before .before .before .read-values .ensures .0) (c .refused-front .ensures)
 
 returns-2 : tie.Need-returns-2
 returns-2 c =
     let a = c .before .before .before .before .before .before .before .before .args in
     let v = c .before .before .before .before .before .read-values in
     table-read (a .bytes .now) (a .z) (remaining (a .bytes .now) (a .from)) (c .title-line .result) _ (sym (ap (linesTold _) (c .before .before .next .given .1)) ∙ v .ensures .0) (v .ensures .1)
-    (c .title-line .ensures .0) (c .title-line .ensures .1)
+    (c .title-line .ensures)
 
 pub read-table-spec : {M : Type 1} → statement M
 read-table-spec =

@@ -22,7 +22,7 @@ refused-front-requires : tie.Need-refused-front-requires
 refused-front-requires c κs = search needs
 
 returns : tie.Need-returns
-returns c = let a = c .before .before .before .before .before .args in title-read (a .bytes .now) (a .z) (a .table) (remaining (a .bytes .now) (a .from)) (sym (c .before .before .before .read-record-title .ensures) ∙ ap (textTold _) (c .before .next .given .1))
+returns c = let a = c .before .before .before .before .before .args in title-read (a .bytes .now) (a .z) (a .table) (remaining (a .bytes .now) (a .from)) (c .before .next .given .0 .0 .at) (sym (c .before .before .before .read-record-title .ensures) ∙ ap (textTold _) (c .before .next .given .1))
 
 returns-2 : tie.Need-returns-2
 returns-2 c = let a = c .before .before .before .before .before .before .args in title-bad (a .bytes .now) (a .z) (a .table) (remaining (a .bytes .now) (a .from)) (sym (c .before .before .before .before .read-record-title .ensures) ∙ ap (textTold _) (c .before .before .enum-told .given .1)) (c .refused-front .ensures)

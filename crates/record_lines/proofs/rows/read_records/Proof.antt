@@ -3,7 +3,7 @@ use borrow.Author.Needs.{needs}
 use mathlib.Core.Path.{_≡_, refl, sym, _∙_, ap}
 use Prim.Native.Nat.{_-_, _≤_}
 use native.Mathlib.Omega.{arith}
-use lib.ListN.{length, length-set}
+use lib.ListN.{length, drop, length-set}
 use Rattle.record_text.specs.Line.{recordLine}
 use Rattle.record_text.specs.Told.{remaining}
 use Rattle.record_file.specs.Reading.{recordMeaningBy, unchanged}
@@ -58,10 +58,10 @@ same-length-4 c = search needs
 
 returns : tie.Need-returns Inv-loop μ-loop
 returns c =
-    let d = c .before .before .before .before .before .before .before .before .before .before .before .before .before in
+    let d = c .before .before .before .before .before .before .before .before .before .before .before .before in
     let l = c .before .before .before .before .before .before .before .loop in
     loop-refused (putRecords (d .args .kinds .now, (d .args .entries .now, (d .args .offs0 .now, d .args .offs1 .now)))) (rowLines (d .args .rows) (d .args .list .now) (d .args .textured) (d .args .bytes .now)) (l .kinds, (l .entries, (l .offs0, l .offs1)))
-    (going-refused recordLine (recordMeaningBy (d .args .rows .n) (d .args .list .now) (d .args .rows .count) (d .args .textured)) unchanged (d .args .rows .many) (d .args .rows .first) tt (remaining (d .args .bytes .now) (d .args .rows .from)) (l .inv .0) (c .before .before .before .before .before .if1 .taken)
+    (going-refused recordLine (recordMeaningBy (d .args .rows .n) (d .args .list .now) (d .args .rows .count) (d .args .textured)) unchanged (d .args .rows .many) (d .args .rows .first) tt (drop (d .args .rows .at) (d .args .bytes .now)) (l .inv .0) (c .before .before .before .before .before .if1 .taken)
     (sym (ap (oneTold _) (c .before .one2 .given .1)) ∙ c .before .before .before .one-record .ensures))
 
 add-i : tie.Need-add-i Inv-loop μ-loop
@@ -72,11 +72,11 @@ loop-less c = search needs
 
 loop-again : tie.Need-loop-again Inv-loop μ-loop
 loop-again c =
-    let d = c .before .before .before .before .before .before .before .before .before .before .before .before .before .before .before .before .before .before .before .before .before .before .before .before in
+    let d = c .before .before .before .before .before .before .before .before .before .before .before .before .before .before .before .before .before .before .before .before .before .before .before in
     let l = c .before .before .before .before .before .before .before .before .before .before .before .before .before .before .before .before .before .before .loop in
     let r = c .before .before .before .before .before .before .before .before .before .before .before .before .one .given .0 .0 in
     let w = c .before .before .before .before .before .before .store in (
-      going-more recordLine (recordMeaningBy (d .args .rows .n) (d .args .list .now) (d .args .rows .count) (d .args .textured)) unchanged (d .args .rows .many) (d .args .rows .first) tt (remaining (d .args .bytes .now) (d .args .rows .from)) (l .inv .0) (c .before .before .before .before .before .before .before .before .before .before .before .before .before .before .before .before .if1 .taken)
+      going-more recordLine (recordMeaningBy (d .args .rows .n) (d .args .list .now) (d .args .rows .count) (d .args .textured)) unchanged (d .args .rows .many) (d .args .rows .first) tt (drop (d .args .rows .at) (d .args .bytes .now)) (l .inv .0) (c .before .before .before .before .before .before .before .before .before .before .before .before .before .before .before .before .if1 .taken)
           (λ k. _≡_ {A = Slices} (w .last .0, (w .last .1 .0, (w .last .1 .1 .0, w .last .1 .1 .1 .0))) (putRecords (d .args .kinds .now, (d .args .entries .now, (d .args .offs0 .now, d .args .offs1 .now))) k))
           (sym (ap (oneTold _) (c .before .before .before .before .before .before .before .before .before .before .before .before .one .given .1)) ∙ c .before .before .before .before .before .before .before .before .before .before .before .before .before .before .one-record .ensures) refl
           (λ k e h. rw (w .ensures .0, w .ensures .1 .0, w .ensures .1 .1 .0, w .ensures .1 .1 .1) (slices-more k r (d .args .kinds .now, (d .args .entries .now, (d .args .offs0 .now, d .args .offs1 .now))) e h)),
@@ -101,10 +101,10 @@ same-length-8 c = search needs
 
 returns-2 : tie.Need-returns-2 Inv-loop μ-loop
 returns-2 c =
-    let d = c .before .before .before .before .before .before .before .before in
+    let d = c .before .before .before .before .before .before .before in
     let l = c .before .before .loop in
     loop-read (putRecords (d .args .kinds .now, (d .args .entries .now, (d .args .offs0 .now, d .args .offs1 .now)))) (rowLines (d .args .rows) (d .args .list .now) (d .args .textured) (d .args .bytes .now)) (l .kinds, (l .entries, (l .offs0, l .offs1)))
-    (going-end recordLine (recordMeaningBy (d .args .rows .n) (d .args .list .now) (d .args .rows .count) (d .args .textured)) unchanged (d .args .rows .many) (d .args .rows .first) tt (remaining (d .args .bytes .now) (d .args .rows .from)) (l .inv .0) (c .if1 .left))
+    (going-end recordLine (recordMeaningBy (d .args .rows .n) (d .args .list .now) (d .args .rows .count) (d .args .textured)) unchanged (d .args .rows .many) (d .args .rows .first) tt (drop (d .args .rows .at) (d .args .bytes .now)) (l .inv .0) (c .if1 .left))
     (l .inv .0 .kept)
 
 pub read-records-spec : {M : Type 1} → statement M

@@ -4,15 +4,14 @@ use mathlib.Core.Path.{_≡_, sym, _∙_, ap, subst}
 use Prim.Native.Nat.{ℕ, _≤_}
 use native.Mathlib.Nat.{le-trans}
 use native.Mathlib.Omega.{arith}
-use lib.ListN.{length}
+use lib.ListN.{length, drop}
 use Rattle.sheet.specs.Compose.{recordsLent}
 use Rattle.sheet.specs.Place.{textured}
 use Rattle.record_text.specs.Lines.{Lined}
-use Rattle.record_text.specs.Told.{remaining}
 use Rattle.record_file.specs.Reading.{File, Aids, aidsOf, blocksIn, fileLines, restLines}
 use Rattle.record_file.proofs.FileLaws.{size-small}
 use Rattle.record_file.proofs.LineBounds.{blocks-few}
-use Rattle.record_front.specs.Told.{sizeBackTold, linesTold, only}
+use Rattle.record_front.specs.Told.{linesTold, only, frontSize}
 use Rattle.record_lines.specs.declared.rows.Rows.{Rows}
 use Rattle.record_lines.specs.Stored.{Slices, putRecords, putOr}
 use Rattle.record_lines.specs.Back.{readLines, linesBack, recordsBack, leaving, lastRowLines}
@@ -37,28 +36,23 @@ enough c = rw (← c .before .records-lent .ensures) (c .if1 .left)
 passed : (c : tie.Else1) → let d = c .before .before .before .before .before .before .before in readLines (aids d) (records d) (d .args .bytes .now) ≡ fileLines (aids d) (d .args .bytes .now)
 passed c = let d = c .before .before .before .before .before .before .before in lines-passed (aids d) (d .args .bytes .now) (enough c)
 
--- the lines before the records
-front : (c : tie.After-back2) → let d = c .before .before .before .before .before .before .before .before .before .before .before in let v = c .back2 .given .0 in FrontRead (aids d) (d .args .bytes .now) (v .0) (remaining (d .args .bytes .now) (v .1 .0)) (c .before .before .before .read-front .result .table)
-front c =
-    let d = c .before .before .before .before .before .before .before .before .before .before .before in
-    let v = c .back2 .given .0 in
-    let r = c .before .before .before .read-front in
-    front-is (aids d) (d .args .bytes .now) (v .0) (remaining (d .args .bytes .now) (v .1 .0)) (r .result .table) (sym (ap (sizeBackTold _) (c .back2 .given .1)) ∙ r .ensures .0) (r .ensures .1)
+-- the lines before the records, and how far their numbers go
+front : (c : tie.Else2) → let d = c .before .before .before .before .before .before .before .before .before .before in FrontRead (aids d) (d .args .bytes .now) (c .before .before .read-front .result)
+front c = let d = c .before .before .before .before .before .before .before .before .before .before in let r = c .before .before .read-front in front-is (aids d) (d .args .bytes .now) (r .result) (r .ensures) (c .if2 .left)
 
--- their size
-sizes : (c : tie.After-back2) → let z = c .back2 .given .0 .0 in (z .values ≤ 256) × (blocksIn z ≤ 1024)
-sizes c = let t = length (c .before .before .before .before .before .before .before .before .before .before .before .args .texture .now) in let z = c .back2 .given .0 .0 in (size-small t z (front c .size) .values, blocks-few t z (front c .size))
+sizes : (c : tie.Else2) → let r = c .before .before .read-front .result in (r .values ≤ 256) × (blocksIn (frontSize r) ≤ 1024)
+sizes c = let t = length (c .before .before .before .before .before .before .before .before .before .before .args .texture .now) in let z = frontSize (c .before .before .read-front .result) in (size-small t z (front c .size) .values, blocks-few t z (front c .size))
 
 -- the rest of the lines
 rest :
     (c : tie.After-read-last)
-    → let d = c .before .before .before .before .before .before .before .before .before .before .before .before .before .before .before .before .before .before in
-    let v = c .before .before .before .before .before .before .before .back2 .given .0 in
+    → let d = c .before .before .before .before .before .before .before .before .before .before .before .before .before .before .before .before in
+    let r = c .before .before .before .before .before .before .before .before .read-front .result in
     let w = c .read-last in
-    (linesTold (d .args .bytes .now) (w .result) ≡ only (restLines (aids d) (v .0) (remaining (d .args .bytes .now) (v .1 .0))))
-    × (_≡_ {A = Slices} (w .last .1 .1 .1 .1 .0, (w .last .1 .1 .1 .1 .1 .0, (w .last .1 .1 .1 .1 .1 .1 .0, w .last .1 .1 .1 .1 .1 .1 .1 .0))) (putOr (putRecords (slices d)) (restLines (aids d) (v .0) (remaining (d .args .bytes .now) (v .1 .0))) (slices d)))
+    (linesTold (d .args .bytes .now) (w .result) ≡ only (restLines (aids d) (frontSize r) (drop (r .at) (d .args .bytes .now))))
+    × (_≡_ {A = Slices} (w .last .1 .1 .1 .1 .0, (w .last .1 .1 .1 .1 .1 .0, (w .last .1 .1 .1 .1 .1 .1 .0, w .last .1 .1 .1 .1 .1 .1 .1 .0))) (putOr (putRecords (slices d)) (restLines (aids d) (frontSize r) (drop (r .at) (d .args .bytes .now))) (slices d)))
 rest c =
-    let d = c .before .before .before .before .before .before .before .before .before .before .before .before .before .before .before .before .before .before in
+    let d = c .before .before .before .before .before .before .before .before .before .before .before .before .before .before .before .before in
     let w = c .read-last in
     subst
     (λ (R : Rows).
@@ -78,31 +72,25 @@ returns c = let d = c .before .before .before .before .before .before .before .b
 read-front-requires : tie.Need-read-front-requires
 read-front-requires c κs = search needs
 
-enum-known-back : tie.Need-enum-known-back
-enum-known-back c = search needs
-
 refused-lines-requires-2 : tie.Need-refused-lines-requires-2
 refused-lines-requires-2 c κs = search needs
 
-enum-known-back-2 : tie.Need-enum-known-back-2
-enum-known-back-2 c = search needs
+returns-2 : tie.Need-returns-2
+returns-2 c =
+    let d = c .before .before .before .before .before .before .before .before .before .before .before in
+    let r = c .before .before .before .read-front in
+    all-refused (slices d) (passed (c .before .before .before .before) ∙ file-no (aids d) (d .args .bytes .now) (r .result) (r .ensures) (c .before .if2 .taken)) (c .refused-lines2 .ensures)
 
 rows-of-requires : tie.Need-rows-of-requires
-rows-of-requires c κs = sizes (c .before)
+rows-of-requires c κs = sizes c
 
 read-last-requires : tie.Need-read-last-requires
 read-last-requires c κs =
-    let h = sizes (c .before .before .before .before .before .before) in
-    rw (c .before .before .before .before .rows-of .ensures) (le-trans (h .1) (enough (c .before .before .before .before .before .before .before .before .before .before)), h .1, omega (arith, h .0))
+    let h = sizes (c .before .before .before .before .before) in
+    rw (c .before .before .before .before .rows-of .ensures) (le-trans (h .1) (enough (c .before .before .before .before .before .before .before .before)), h .1, omega (arith, h .0))
 
 told-lines-requires : tie.Need-told-lines-requires
 told-lines-requires c κs = search needs
-
-returns-2 : tie.Need-returns-2
-returns-2 c =
-    let n = c .before .before in
-    let d = c .before .before .before .before .before .before .before .before .before .before .before .before .before in
-    all-refused (slices d) (passed (n .before .before .before .before) ∙ file-no (aids d) (d .args .bytes .now) (sym (ap (sizeBackTold _) (n .back .given .1)) ∙ n .before .before .before .read-front .ensures .0)) (c .refused-lines2 .ensures)
 
 same-length : tie.Need-same-length
 same-length c = search needs
@@ -118,15 +106,13 @@ same-length-4 c = search needs
 
 returns-3 : tie.Need-returns-3
 returns-3 c =
-    let f = c .before .before .before .before .before .before .before .before .before .before .before .before .before .before in
-    let d = c .before .before .before .before .before .before .before .before .before .before .before .before .before .before .before .before .before .before .before .before .before .before .before .before .before in
-    let v = f .back2 .given .0 in
-    let u = remaining (d .args .bytes .now) (v .1 .0) in
+    let f = c .before .before .before .before .before .before .before .before .before .before .before .before .before in
+    let d = c .before .before .before .before .before .before .before .before .before .before .before .before .before .before .before .before .before .before .before .before .before .before .before in
     let w = c .before .before .before .before .before .before .before in
-    let t = f .before .before .before .read-front .result .table in
-    let e = sym (passed (f .before .before .before .before)) in (
-      c .told-lines .ensures ∙ back-is (aids d) (d .args .bytes .now) (v .0) u t (front f) (w .read-last .result) (rest w .0) ∙ ap linesBack e,
-      rest w .1 ∙ kept-is (aids d) (d .args .bytes .now) (v .0) u t (front f) (slices d) ∙ ap (λ (x : Lined File). leaving x (λ F. recordsBack F (slices d)) (slices d)) e,
+    let r = f .before .before .read-front .result in
+    let e = sym (passed (f .before .before .before)) in (
+      c .told-lines .ensures ∙ back-is (aids d) (d .args .bytes .now) r (front f) (w .read-last .result) (rest w .0) ∙ ap linesBack e,
+      rest w .1 ∙ kept-is (aids d) (d .args .bytes .now) r (front f) (slices d) ∙ ap (λ (x : Lined File). leaving x (λ F. recordsBack F (slices d)) (slices d)) e,
     )
 
 pub read-lines-spec : {M : Type 1} → statement M
@@ -137,13 +123,11 @@ read-lines-spec =
     refused-lines-requires
     returns
     read-front-requires
-    enum-known-back
     refused-lines-requires-2
-    enum-known-back-2
+    returns-2
     rows-of-requires
     read-last-requires
     told-lines-requires
-    returns-2
     same-length
     same-length-2
     same-length-3

@@ -3,17 +3,17 @@ use borrow.Author.Needs.{needs}
 use Rattle.record_lines.proofs.whole.rows_of.Statement.{statement}
 use Rattle.record_lines.proofs.whole.rows_of.Tie as tie
 
-add-t5 : tie.Need-add-t5
-add-t5 c = search needs
+add-t4 : tie.Need-add-t4
+add-t4 c = search needs
 
 blocks-requires : tie.Need-blocks-requires
 blocks-requires c κs = search needs
 
-cast-t8 : tie.Need-cast-t8
-cast-t8 c = search needs
+cast-t7 : tie.Need-cast-t7
+cast-t7 c = search needs
 
 returns : tie.Need-returns
 returns c = rw (c .before .blocks2 .ensures)
 
 pub rows-of-spec : {M : Type 1} → statement M
-rows-of-spec = tie.close (tie.spec add-t5 blocks-requires cast-t8 returns)
+rows-of-spec = tie.close (tie.spec add-t4 blocks-requires cast-t7 returns)

@@ -14,10 +14,10 @@ enum-told : tie.Need-enum-told
 enum-told c = search needs
 
 returns : tie.Need-returns
-returns c = let a = c .before .before .before .before .args in told-refused (a .z) (a .table) (c .before .before .last .given .1) (c .refused-lines .ensures)
+returns c = let a = c .before .before .before .before .before .args in told-refused (a .front) (c .before .before .last .given .1) (c .refused-lines .ensures)
 
 returns-2 : tie.Need-returns-2
-returns-2 c = let a = c .before .before .args in told-done (a .z) (a .table) (c .enum-told .given .1)
+returns-2 c = let a = c .before .before .before .args in told-done (a .front) (c .enum-told .given .1)
 
 pub told-lines-spec : {M : Type 1} → statement M
 told-lines-spec =

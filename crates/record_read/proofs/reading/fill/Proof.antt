@@ -27,21 +27,21 @@ slice-relend-prefix-place-all : tie.Need-slice-relend-prefix-place-all
 slice-relend-prefix-place-all c = search needs
 
 slice-aggregate-place-all : tie.Need-slice-aggregate-place-all
-slice-aggregate-place-all c = sym (length-take-le _ _ (c .before .before .before .before .before .before .before .before .before .before .before .pre .0 .1))
+slice-aggregate-place-all c = sym (length-take-le _ _ (c .before .before .before .before .before .before .before .before .before .before .pre .0 .1))
 
 array-share-prefix-table : tie.Need-array-share-prefix-table
-array-share-prefix-table c = c .before .before .before .before .before .before .before .before .before .before .before .pre .0 .0
+array-share-prefix-table c = c .before .before .before .before .before .before .before .before .before .before .pre .0 .0
 
 slice-aggregate-place-all-2 : tie.Need-slice-aggregate-place-all-2
-slice-aggregate-place-all-2 c = sym (length-take-le _ _ (c .before .before .before .before .before .before .before .before .before .before .before .before .pre .0 .0))
+slice-aggregate-place-all-2 c = sym (length-take-le _ _ (c .before .before .before .before .before .before .before .before .before .before .before .pre .0 .0))
 
 blocks-requires : tie.Need-blocks-requires
 blocks-requires c κs = search needs
 
 place-all-requires : tie.Need-place-all-requires
 place-all-requires c κs =
-    let d = c .before .before .before .before .before .before .before .before .before .before .before .before .before in
-    let z = d .args .lines .size in
+    let d = c .before .before .before .before .before .before .before .before .before .before .before .before in
+    let z = d .args .lines in
     rw (c .blocks2 .ensures) (d .pre .1 .0, λ i h. rw (length-take-le (z .width * z .height) (d .args .samples .now) (d .pre .0 .1)) (d .pre .1 .1 i h))
 
 same-length : tie.Need-same-length
@@ -49,8 +49,8 @@ same-length c = search needs
 
 returns : tie.Need-returns
 returns c =
-    let a = c .before .before .before .before .before .before .before .before .before .before .before .before .before .before .before .before .args in
-    let z = a .lines .size in
+    let a = c .before .before .before .before .before .before .before .before .before .before .before .before .before .before .before .args in
+    let z = a .lines in
     ap (λ (x : List ℕ). x ++ drop (z .width * z .height) (a .samples .now))
     (c .before .before .place-all .ensures
     ∙ ap (placedInTurn (sheetOf (a .lines)) (materialOf (a .list .now) (a .count) (tableOf (a .lines)) (a .texture .now)) (λ i. meant (recordAt (a .kinds .now) (a .entries .now) (a .offs0 .now) (a .offs1 .now) i)) (take (z .width * z .height) (a .samples .now))) (c .before .before .before .blocks2 .ensures))

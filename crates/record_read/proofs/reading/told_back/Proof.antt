@@ -6,11 +6,11 @@ use Rattle.record_read.proofs.reading.told_back.Tie as tie
 blocks-requires : tie.Need-blocks-requires
 blocks-requires c κs = search needs
 
-cast-t6 : tie.Need-cast-t6
-cast-t6 c = search needs
+cast-t5 : tie.Need-cast-t5
+cast-t5 c = search needs
 
 returns : tie.Need-returns
 returns c = rw (c .blocks2 .ensures)
 
 pub told-back-spec : {M : Type 1} → statement M
-told-back-spec = tie.close (tie.spec blocks-requires cast-t6 returns)
+told-back-spec = tie.close (tie.spec blocks-requires cast-t5 returns)
