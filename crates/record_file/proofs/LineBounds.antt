@@ -93,7 +93,7 @@ table-below z s h =
     lines-below lineEnd (valueLines (z .values) 4 s) _ (many-below lineEnd valueLine valueMeaning lowAfter (z .values) 4 0 s (omega arith)) (λ table t _.
     line-below lineEnd (4 + z .values) (exactly recordTitle t) noMeaning _ (omega arith) (λ _ u _. tt))
 
-front-below : (texture : ℕ) (s : List ℕ) → Below lineEnd (frontLines texture s)
+pub front-below : (texture : ℕ) (s : List ℕ) → Below lineEnd (frontLines texture s)
 front-below texture s =
     lines-below lineEnd (headLines texture s) _ (head-below texture s)
     (λ z t e. table-below z t (size-small texture z (head-sound texture s z t e) .values))

@@ -1,12 +1,10 @@
 -- Document 01, "House file": reading the text, line by line. Assumes nothing.
 use Prim.Native.Nat.{ℕ, suc, _+_, _*_, _≤_}
-use mathlib.Core.Path.{_≡_}
-use mathlib.Core.Bool.{Bool, true, _&&_, _||_}
+use mathlib.Core.Bool.{Bool, _&&_, _||_}
 use mathlib.Core.List.{List}
 use lib.Dec.{eqb, leb, ltb}
-use lib.ListN.{length, take}
+use lib.ListN.{length}
 use Rattle.arith.specs.Checks.{unless}
-use Rattle.depth_table.specs.Table.{tableOk}
 use Rattle.pattern.specs.Size.{sizeOk}
 use Rattle.pattern.specs.Answer.{countOk}
 use Rattle.sheet_blocks.specs.Grid.{blocks}
@@ -130,9 +128,3 @@ pub record ReadLengths (samples records words count : ℕ) : Type 0 where
   pub records-lent : 1024 ≤ records
   pub inside : count ≤ words
   pub few : count ≤ 9999
-
--- the lines before the records are sound, and the first values of the array are the table
-pub record RestReady (z : SizeFields) (array : List ℕ) (texture : ℕ) : Type 0 where
-  pub size : sizeMeaning texture z ≡ 0
-  pub room : z .values ≤ length array
-  pub sound : tableOk (take (z .values) array) ≡ true

@@ -1,28 +1,28 @@
 -- What `read` answers and leaves, from what its parts do. Assumes nothing.
-use Prim.Native.Nat.{ℕ, _+_, _≤_}
-use mathlib.Core.Path.{_≡_, refl, sym, _∙_, ap}
+use Prim.Native.Nat.{ℕ, _+_, _*_, _≤_, _<_}
+use mathlib.Core.Path.{_≡_, refl, _∙_, ap}
 use mathlib.Core.Bool.{true, false}
-use mathlib.Core.List.{List}
+use mathlib.Core.List.{List, [], _++_}
+use native.Mathlib.Nat.{le-trans, mul-le-mul}
 use native.Mathlib.Omega.{arith}
+use lib.IntN.{ℤ}
 use lib.ListN.{length, take, drop, replicate, length-replicate}
 use lib.Seq.{sets, sets-eq, length-sets, take-at}
-use Rattle.sheet.specs.State.{stateOf, blocksOf}
-use Rattle.record_text.specs.declared.cursor.Cursor.{Cursor}
-use Rattle.record_read.specs.declared.reading.FileBack.{FileBack}
+use Rattle.sheet.specs.State.{after}
+use Rattle.sheet.specs.Place.{materialOf, placeRefusal, placedInTurn}
+use Rattle.sheet_checks.specs.Checks.{recordsLent}
 use Rattle.record_text.specs.declared.cursor.SizeFields.{SizeFields}
-use Rattle.record_text.specs.declared.cursor.RecordFields.{RecordFields}
-use Rattle.record_text.specs.Lines.{Lined, refusedAt, read, linesThen}
-use Rattle.record_text.proofs.LinesLaws.{refused-read}
-use Rattle.record_read.specs.declared.loops.LinesRead.{LinesRead}
-use Rattle.record_read.specs.declared.loops.LinesRead.the-variants as linesRead
-use Rattle.record_file.specs.Reading.{File, fileOf, Aids, frontLines, restLines, fileLines, readLengthsOk, readFile, RestReady}
-use Rattle.record_read.specs.Stored.{linesTold, only, sizeOnly, TableIf, Slices, putRecords, putOr}
-use Rattle.record_read.specs.Back.{fileBack, backBy, samplesBack, recordsBack, leaving}
-use Rattle.record_file.proofs.MeaningLaws.{sound-values}
-use Rattle.record_file.proofs.FileLaws.{front-parts, size-small}
-use Rattle.record_file.proofs.RoundTrip.{parts-table}
-use Rattle.record_read.proofs.PartLaws.{only-refused}
-use Rattle.record_read.proofs.RestLaws.{OnlyRead, only-read}
+use Rattle.record_text.specs.Lines.{Lined, refusedAt, read}
+use Rattle.record_file.specs.Text.{meant, recordAt}
+use Rattle.record_file.specs.Reading.{File, fileOf, Aids, blocksIn, fileLines, readLengthsOk, readFile}
+use Rattle.record_file.proofs.FileLaws.{size-small, file-wrote}
+use Rattle.record_file.proofs.LineBounds.{blocks-few}
+use Rattle.record_lines.specs.declared.whole.LinesBack.{LinesBack}
+use Rattle.record_lines.specs.Stored.{Slices, putRecords}
+use Rattle.record_lines.specs.Back.{linesBack, linesSize, recordsBack, leaving}
+use Rattle.record_read.specs.declared.reading.FileBack.{FileBack}
+use Rattle.record_read.specs.Back.{emptySheet, materialIn, recordIn, samplesBack, fileBack, sheetOf, tableOf, backOf}
+use Rattle.record_read.proofs.RestLaws.{record-back, lent-same, in-turn-ext, headerOf, file-accepted}
 
 -- ---- the lengths
 
@@ -35,122 +35,158 @@ module _ (A : Aids) (samples records : ℕ) (s : List ℕ) where
   unfolding readFile
   read-passed e = rw e
 
--- ---- the lines before the records
+-- ---- a refusal: the answer has its number and line, and nothing is altered
 
-abbrev frontKind : {B : Type 0} → Lined SizeFields → Lined B
-frontKind (refusedAt n k) = refusedAt n k
-frontKind (read z s) = refusedAt 0 0
-
-front-no : (x : Lined (SizeFields × List ℕ)) {n k : ℕ} → refusedAt n k ≡ sizeOnly x → x ≡ refusedAt n k
-front-no (refusedAt i j) e = ap frontKind (sym e)
-front-no (read f s) e = refused-read e
-
-pub file-no : (A : Aids) (s : List ℕ) {n k : ℕ} → refusedAt n k ≡ sizeOnly (frontLines (length (A .texture)) s) → fileLines A s ≡ refusedAt n k
-unfolding fileLines
-file-no A s e = rw (front-no (frontLines (length (A .texture)) s) e)
-
--- what they hold where they are read, with the array that the table was stored in
-pub record FrontRead (A : Aids) (s : List ℕ) (z : SizeFields) (u array : List ℕ) : Type 0 where
-  pub table : List ℕ
-  pub is : frontLines (length (A .texture)) s ≡ read (z, table) u
-  pub count : length table ≡ z .values
-  pub held : array ≡ sets (replicate 256 0) 0 table
-  pub first : take (z .values) array ≡ table
-  pub ready : RestReady z array (length (A .texture))
-
-front-yes :
-    (x : Lined (SizeFields × List ℕ)) (z : SizeFields) (u array : List ℕ) (put : List ℕ → List ℕ) → read z u ≡ sizeOnly x → TableIf put x array
-    → OnlyRead x u × ((l : List ℕ) → x ≡ read (z, l) u → array ≡ put l)
-front-yes (refusedAt n k) z u array put e h = refused-read (sym e)
-front-yes (read f s) z u array put e h =
-    let p : u ≡ s = cc in
-    (record { value = f; is = ap (read f) (sym p) }, λ l q. h ∙ ap put (second q))
-  where
-    second : {f : SizeFields × List ℕ} {l s t : List ℕ} → read f s ≡ read (z, l) t → f .1 ≡ l
-    second {f} {l} q = ap (λ (g : SizeFields × List ℕ). g .1) (let e : f ≡ (z, l) = cc in e)
-
-pub front-is :
-    (A : Aids) (s : List ℕ) (z : SizeFields) (u array : List ℕ) → read z u ≡ sizeOnly (frontLines (length (A .texture)) s)
-    → TableIf (sets (replicate 256 0) 0) (frontLines (length (A .texture)) s) array → FrontRead A s z u array
-front-is A s z u array e h =
-    let t = length (A .texture) in
-    let y = front-yes (frontLines t s) z u array (sets (replicate 256 0) 0) e h in
-    let f = y .0 .value in
-    let q : read z u ≡ read (f .0) u = e ∙ ap sizeOnly (y .0 .is) in
-    let ez : f .0 ≡ z = sym (size-same q) in
-    let is : frontLines t s ≡ read (z, f .1) u = y .0 .is ∙ ap (λ (g : SizeFields). read (g, f .1) u) ez in
-    let p = front-parts t s z (f .1) u is in
-    let held : array ≡ sets (replicate 256 0) 0 (f .1) = y .1 (f .1) is in
-    let small = size-small t z (p .size) in
-    let c = p .count in
-    let zeros : List ℕ = replicate 256 0 in
-    let room : 0 + length (f .1) ≤ length zeros = omega (arith, length-replicate {A = ℕ} 256 0, small .values) in
-    let first : take (z .values) array ≡ f .1 =
-    ap (take (z .values)) (held ∙ sets-eq (f .1) (replicate 256 0) 0 room) ∙ take-at (f .1) (drop (0 + length (f .1)) (replicate 256 0)) (z .values) c in
-    let v = sound-values (f .1) 0 (p .each) in
-    record {
-      table = f .1;
-      is = is;
-      count = c;
-      held = held;
-      first = first;
-      ready = record {
-        size = p .size;
-        room = omega (arith, ap length held, length-sets (replicate 256 0) 0 (f .1), length-replicate {A = ℕ} 256 0, small .values);
-        sound = rw first (parts-table (f .1) (omega (arith, small .some)) (omega (arith, small .values)) (v .0) (v .1));
-      };
-    }
-  where
-    size-same : {a b : SizeFields} {s t : List ℕ} → read a s ≡ read b t → a ≡ b
-    size-same e = cc
-
--- ---- the rest
-
--- the answer, case by case
-pub told-refused :
-    {last : LinesRead} (z : SizeFields) (array : List ℕ) {n k : ℕ} {r : FileBack} → last ≡ linesRead.Refused n k → r ≡ fileBack (refusedAt n k) → r ≡ backBy last z array
-told-refused z array e q = rw e q
-
-pub told-done :
-    {last : LinesRead} {c : Cursor} (z : SizeFields) (array : List ℕ) {k : ℕ} → last ≡ linesRead.Done c → k ≡ blocksOf (stateOf (z .n) (z .width) (z .height) 0)
-    → _≡_ {A = FileBack} (record { refusal = 0; line = 0; sheet = stateOf (z .n) (z .width) (z .height) k; values = z .values; table = array }) (backBy last z array)
-told-done z array e q = rw (e, q)
-
-module _ (A : Aids) (s : List ℕ) (z : SizeFields) (u array : List ℕ) (f : FrontRead A s z u array) where
-  abbrev whole : Lined (List RecordFields) → Lined File
-  whole x = linesThen x (λ records v. read (fileOf (z .n) (z .width) (z .height) (f .table) records) v)
-
-  pub file-is : fileLines A s ≡ whole (restLines A z u)
-  unfolding fileLines
-  file-is = rw (f .is)
-
-  pub back-is : (bytes : List ℕ) (last : LinesRead) → linesTold bytes last ≡ only (restLines A z u) → backBy last z array ≡ fileBack (fileLines A s)
-  back-is bytes last e = go (restLines A z u) last e ∙ ap fileBack (sym file-is)
-    where
-      go : (x : Lined (List RecordFields)) (last : LinesRead) → linesTold bytes last ≡ only x → backBy last z array ≡ fileBack (whole x)
-      go x (linesRead.Refused n k) e = rw (only-refused x e)
-      go x (linesRead.Done c) e = let r = only-read x _ e in rw (r .is, ← f .count, ← f .held)
-
-  pub kept-is : (old : Slices) → putOr (putRecords old) (restLines A z u) old ≡ leaving (fileLines A s) (λ F. recordsBack F old) old
-  kept-is old = go (restLines A z u) ∙ ap (λ (x : Lined File). leaving x (λ F. recordsBack F old) old) (sym file-is)
-    where
-      go : (x : Lined (List RecordFields)) → putOr (putRecords old) x old ≡ leaving (whole x) (λ F. recordsBack F old) old
-      go (refusedAt n k) = refl
-      go (read l v) = refl
-
-  pub drawn-is :
-      (old : List ℕ)
-      → putOr (λ l. samplesBack A (fileOf (z .n) (z .width) (z .height) (take (z .values) array) l) old) (restLines A z u) old
-      ≡ leaving (fileLines A s) (λ F. samplesBack A F old) old
-  drawn-is old = go (restLines A z u) ∙ ap (λ (x : Lined File). leaving x (λ F. samplesBack A F old) old) (sym file-is)
-    where
-      go : (x : Lined (List RecordFields))
-          → putOr (λ l. samplesBack A (fileOf (z .n) (z .width) (z .height) (take (z .values) array) l) old) x old ≡ leaving (whole x) (λ F. samplesBack A F old) old
-      go (refusedAt n k) = refl
-      go (read l v) = ap (λ (t : List ℕ). samplesBack A (fileOf (z .n) (z .width) (z .height) t l) old) (f .first)
-
--- a refusal: the answer has its number and line, and nothing is altered
 pub all-refused :
     (A : Aids) (old : Slices) (samples : List ℕ) {x : Lined File} {n k : ℕ} {r : FileBack} → x ≡ refusedAt n k → r ≡ fileBack (refusedAt n k)
     → (r ≡ fileBack x) × ((old ≡ leaving x (λ F. recordsBack F old) old) × (samples ≡ leaving x (λ F. samplesBack A F samples) samples))
 all-refused A old samples e q = rw e (q, (refl, refl))
+
+-- ---- what was read
+
+-- the file that was read; where a line is refused, one of no blocks
+abbrev fileIn : Lined File → File
+fileIn (refusedAt n k) = fileOf 0 0 0 [] []
+fileIn (read F s) = F
+
+-- the samples of either
+none-drawn :
+    (A : Aids) (t : List ℕ) → let F = fileOf 0 0 0 [] [] in placedInTurn (emptySheet F) (materialIn A F) (recordIn F) (take (F .width * F .height) t) (blocksIn (headerOf F)) ++ drop (F .width * F .height) t ≡ t
+unfolding placedInTurn
+none-drawn A t = refl
+
+file-drawn :
+    (A : Aids) (F : File) (t : List ℕ)
+    → placedInTurn (emptySheet F) (materialIn A F) (recordIn F) (take (F .width * F .height) t) (blocksIn (headerOf F)) ++ drop (F .width * F .height) t ≡ samplesBack A F t
+unfolding samplesBack
+file-drawn A F t = refl
+
+-- what holds of both
+record Drawable (A : Aids) (F : File) : Type 0 where
+  table : length (F .table) ≤ 256
+  width : F .width ≤ 128
+  height : F .height ≤ 128
+  blocks : blocksIn (headerOf F) ≤ 1024
+  whole : length (F .records) ≡ blocksIn (headerOf F)
+  each : (i : ℕ) → i < blocksIn (headerOf F) → placeRefusal (after i (emptySheet F)) (F .width * F .height) (materialIn A F) (recordIn F i) ≡ 0
+
+drawable : (A : Aids) (s : List ℕ) (x : Lined File) → fileLines A s ≡ x → A .count ≤ length (A .list) → A .count ≤ 9999 → Drawable A (fileIn x)
+drawable A s (refusedAt n k) e inside few =
+    record { table = omega arith; width = omega arith; height = omega arith; blocks = omega arith; whole = refl; each = λ i l. absurd (omega (arith, l)) }
+drawable A s (read F u) e inside few =
+    let ok = file-wrote A F s u e .sound in
+    let z = size-small (length (A .texture)) (headerOf F) (ok .size) in
+    record {
+      table = z .values;
+      width = z .width;
+      height = z .height;
+      blocks = blocks-few (length (A .texture)) (headerOf F) (ok .size);
+      whole = ok .whole;
+      each = file-accepted A F ok inside few;
+    }
+
+-- the first values of the array are the table
+table-first : (t : List ℕ) → length t ≤ 256 → take (length t) (sets (replicate 256 0) 0 t) ≡ t
+table-first t h =
+    ap (take (length t)) (sets-eq t (replicate 256 0) 0 (omega (arith, length-replicate {A = ℕ} 256 0)))
+    ∙ take-at t (drop (0 + length t) (replicate 256 0)) (length t) refl
+
+-- the lines' answer b and the lent records afterwards, where reading gives x
+module _
+    (A : Aids) (s : List ℕ) (x : Lined File) (read-as : fileLines A s ≡ x) (inside : A .count ≤ length (A .list)) (few : A .count ≤ 9999)
+    (b : LinesBack) (told : b ≡ linesBack x)
+  where
+    file : Drawable A (fileIn x)
+    file = drawable A s x read-as inside few
+
+    size-is : linesSize b ≡ headerOf (fileIn x)
+    size-is = ap linesSize told ∙ go x
+      where
+        go : (x : Lined File) → linesSize (linesBack x) ≡ headerOf (fileIn x)
+        go (refusedAt n k) = refl
+        go (read F u) = refl
+
+    n-is : b .n ≡ fileIn x .n
+    n-is = ap (λ (z : SizeFields). z .n) size-is
+
+    width-is : b .width ≡ fileIn x .width
+    width-is = ap (λ (z : SizeFields). z .width) size-is
+
+    height-is : b .height ≡ fileIn x .height
+    height-is = ap (λ (z : SizeFields). z .height) size-is
+
+    values-is : b .values ≡ length (fileIn x .table)
+    values-is = ap (λ (z : SizeFields). z .values) size-is
+
+    array-is : b .table ≡ sets (replicate 256 0) 0 (fileIn x .table)
+    array-is = ap (λ (y : LinesBack). y .table) told ∙ go x
+      where
+        go : (x : Lined File) → linesBack x .table ≡ sets (replicate 256 0) 0 (fileIn x .table)
+        go (refusedAt n k) = refl
+        go (read F u) = refl
+
+    -- the table and the samples have room
+    pub fits : {samples : ℕ} → 16384 ≤ samples → (b .values ≤ length (b .table)) × (b .width * b .height ≤ samples) × (b .width ≤ 128) × (b .height ≤ 128)
+    fits l =
+        let F = fileIn x in
+        let area = mul-le-mul {n₁ = F .width} {m₁ = F .height} {n₂ = 128} {m₂ = 128} (file .width) (file .height) in
+        let t : length (F .table) ≤ length (sets (replicate 256 0) 0 (F .table)) = omega (arith, length-sets (replicate 256 0) 0 (F .table), length-replicate {A = ℕ} 256 0, file .table) in
+        rw (width-is, height-is, values-is, array-is) (t, le-trans area l, file .width, file .height)
+
+    pub blocks-fit : blocksIn (linesSize b) ≤ 1024
+    blocks-fit = rw size-is (file .blocks)
+
+    table-is : tableOf b ≡ fileIn x .table
+    table-is = rw (values-is, array-is) (table-first (fileIn x .table) (file .table))
+
+    -- the answer
+    pub back-is : backOf b ≡ fileBack x
+    back-is = ap backOf told ∙ go x
+      where
+        go : (x : Lined File) → backOf (linesBack x) ≡ fileBack x
+        go (refusedAt n k) = refl
+        go (read F u) = refl
+
+    module _
+        (old : Slices) {k e : List ℕ} {a o : List ℤ} (left : _≡_ {A = Slices} (k, (e, (a, o))) (leaving x (λ F. recordsBack F old) old))
+        (room : 1024 ≤ recordsLent (length (old .0)) (length (old .1 .0)) (length (old .1 .1 .0)) (length (old .1 .1 .1)))
+      where
+        stored : _≡_ {A = Slices} (k, (e, (a, o))) (putRecords old (fileIn x .records))
+        stored = left ∙ go x
+          where
+            go : (x : Lined File) → leaving x (λ F. recordsBack F old) old ≡ putRecords old (fileIn x .records)
+            go (refusedAt n k) = refl
+            go (read F u) = refl
+
+        -- there is room for every record
+        pub blocks-room : blocksIn (linesSize b) ≤ recordsLent (length k) (length e) (length a) (length o)
+        blocks-room = rw (lent-same (fileIn x .records) old stored) (le-trans blocks-fit room)
+
+        -- the record at each place
+        record-is : (i : ℕ) → i < blocksIn (linesSize b) → meant (recordAt k e a o i) ≡ recordIn (fileIn x) i
+        record-is i l =
+            ap meant
+            (record-back (fileIn x .records) old stored (le-trans (rw (file .whole) (file .blocks)) room) i (rw (file .whole) (rw size-is at l)))
+
+        -- each is accepted for its block
+        pub accepted :
+            (i : ℕ) → i < blocksIn (linesSize b)
+            → placeRefusal (after i (sheetOf b)) (b .width * b .height) (materialOf (A .list) (A .count) (tableOf b) (A .texture)) (meant (recordAt k e a o i)) ≡ 0
+        accepted i l = rw (table-is, record-is i l, n-is, width-is, height-is) (file .each i (rw size-is at l))
+
+        -- the samples afterwards
+        pub drawn :
+            (t : List ℕ) {new : List ℕ}
+            → new ≡ placedInTurn (sheetOf b) (materialOf (A .list) (A .count) (tableOf b) (A .texture)) (λ i. meant (recordAt k e a o i)) (take (b .width * b .height) t) (blocksIn (linesSize b)) ++ drop (b .width * b .height) t
+            → new ≡ leaving x (λ F. samplesBack A F t) t
+        drawn t {new} q =
+            q
+            ∙ ap (λ (l : List ℕ). l ++ drop (b .width * b .height) t)
+            (in-turn-ext (sheetOf b) (materialOf (A .list) (A .count) (tableOf b) (A .texture)) (λ i. meant (recordAt k e a o i)) (recordIn (fileIn x)) (take (b .width * b .height) t) (blocksIn (linesSize b)) record-is)
+            ∙ rw (table-is, n-is, width-is, height-is) (go x)
+          where
+            go : (x : Lined File)
+                → placedInTurn (emptySheet (fileIn x)) (materialIn A (fileIn x)) (recordIn (fileIn x)) (take (fileIn x .width * fileIn x .height) t) (blocksIn (headerOf (fileIn x))) ++ drop (fileIn x .width * fileIn x .height) t
+                ≡ leaving x (λ F. samplesBack A F t) t
+            go (refusedAt n k) = none-drawn A t
+            go (read F u) = file-drawn A F t

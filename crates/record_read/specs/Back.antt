@@ -5,16 +5,13 @@ use lib.ListN.{length, getD, take, drop, replicate}
 use lib.Seq.{sets}
 use Rattle.choice.specs.Record.{Record}
 use Rattle.sheet.specs.declared.Sheet.{Sheet}
-use Rattle.sheet.specs.State.{stateOf, blocksOf, finished}
+use Rattle.sheet.specs.State.{stateOf, area, blocksOf, finished}
 use Rattle.sheet.specs.Place.{Material, materialOf, placedInTurn}
-use Rattle.record_text.specs.declared.cursor.SizeFields.{SizeFields}
 use Rattle.record_text.specs.Lines.{Lined, refusedAt, read}
-use Rattle.record_read.specs.declared.loops.LinesRead.{LinesRead}
-use Rattle.record_read.specs.declared.loops.LinesRead.the-variants as linesRead
-use Rattle.record_read.specs.declared.reading.FileBack.{FileBack}
 use Rattle.record_file.specs.Text.{meant, noRecord}
 use Rattle.record_file.specs.Reading.{File, Aids}
-use Rattle.record_read.specs.Stored.{Slices, putRecords}
+use Rattle.record_lines.specs.declared.whole.LinesBack.{LinesBack}
+use Rattle.record_read.specs.declared.reading.FileBack.{FileBack}
 
 -- the empty sheet that the records are placed on, what they are placed with, and which they are
 abbrev pub emptySheet : File → Sheet
@@ -26,15 +23,15 @@ materialIn A F = materialOf (A .list) (A .count) (F .table) (A .texture)
 abbrev pub recordIn : File → ℕ → Record
 recordIn F k = meant (getD (F .records) k noRecord)
 
+-- the samples that placing a record for each block in turn gives, on an empty sheet
+abbrev pub drawnOn : Sheet → Material → (ℕ → Record) → List ℕ
+drawnOn S M records = placedInTurn S M records (replicate (area S) 0) (blocksOf S)
+
 -- the sheet's samples in the first places: those of placing the records in turn; past them nothing changes
 unfoldable pub samplesBack : Aids → File → List ℕ → List ℕ
 samplesBack A F old =
     placedInTurn (emptySheet F) (materialIn A F) (recordIn F) (take (F .width * F .height) old) (blocksOf (emptySheet F))
     ++ drop (F .width * F .height) old
-
--- the lent records: the file's in the first places; past them nothing changes
-abbrev pub recordsBack : File → Slices → Slices
-recordsBack F old = putRecords old (F .records)
 
 -- the answer: the number of a refusal and its line, or the finished state and the table, its values before zeros, with its count
 abbrev pub fileBack : Lined File → FileBack
@@ -42,13 +39,12 @@ fileBack (refusedAt n k) = record { refusal = n; line = k; sheet = stateOf 0 0 0
 fileBack (read F s) =
     record { refusal = 0; line = 0; sheet = finished (emptySheet F); values = length (F .table); table = sets (replicate 256 0) 0 (F .table) }
 
--- what is lent afterwards: a refusal leaves it as it was
-abbrev pub leaving : {X : Type 0} → Lined File → (File → X) → X → X
-leaving (refusedAt n k) new old = old
-leaving (read F s) new old = new F
+-- the same of the lines' answer, with the sheet that its records are placed on and the table
+abbrev pub sheetOf : LinesBack → Sheet
+sheetOf b = stateOf (b .n) (b .width) (b .height) 0
 
--- the answer after the lines before the records were read, with the size line's numbers and the array that holds the table
-abbrev pub backBy : LinesRead → SizeFields → List ℕ → FileBack
-backBy (linesRead.Refused n k) z array = fileBack (refusedAt n k)
-backBy (linesRead.Done c) z array =
-    record { refusal = 0; line = 0; sheet = finished (stateOf (z .n) (z .width) (z .height) 0); values = z .values; table = array }
+abbrev pub tableOf : LinesBack → List ℕ
+tableOf b = take (b .values) (b .table)
+
+abbrev pub backOf : LinesBack → FileBack
+backOf b = record { refusal = b .refusal; line = b .line; sheet = finished (sheetOf b); values = b .values; table = b .table }

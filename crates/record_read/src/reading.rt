@@ -5,22 +5,18 @@ ghost use Prim.Native.Nat.{ℕ, _*_, _<_, _≤_};
 ghost use lib.ListN.{length, take, drop};
 ghost use Rattle.record_text.specs.Lines.{refusedAt};
 ghost use Rattle.sheet_checks.specs.Checks.{recordsLent};
-ghost use Rattle.sheet.specs.State.{after, stateOf};
+ghost use Rattle.sheet.specs.State.{after};
 ghost use Rattle.sheet.specs.Place.{materialOf, placedSamples, placeRefusal, placedInTurn};
 ghost use Rattle.record_file.specs.Text.{meant, recordAt};
-ghost use Rattle.record_read.specs.Back.{fileBack, backBy, samplesBack, recordsBack, leaving};
-ghost use Rattle.record_file.specs.Reading.{aidsOf, fileOf, readFile, blocksIn, restLines, readLengthsOk, ReadLengths, RestReady};
-ghost use Rattle.record_read.specs.Stored.{linesTold, only, Slices, putRecords, putOr};
-ghost use Rattle.record_text.specs.Told.{remaining};
-use crate::front::read_front;
-use crate::front::read_last;
-use crate::lines::SizeBack;
-use crate::loops::LinesRead;
+ghost use Rattle.record_file.specs.Reading.{aidsOf, readFile, blocksIn, readLengthsOk};
+ghost use Rattle.record_lines.specs.Stored.{Slices};
+ghost use Rattle.record_lines.specs.Back.{linesSize, recordsBack, leaving};
+ghost use Rattle.record_read.specs.Back.{fileBack, samplesBack, sheetOf, tableOf, backOf};
 use pattern::count_ok;
 use record_file::record_at;
-use record_text::Cursor;
+use record_lines::LinesBack;
+use record_lines::read_lines;
 use record_text::RecordFields;
-use record_text::SizeFields;
 use sheet::Placed;
 use sheet::Sheet;
 use sheet_checks::records_lent;
@@ -104,7 +100,7 @@ pub struct FileBack {
     pub table: [u8; 256],
 }
 
-// The answer where the file is refused.
+// The answer where the lengths are refused.
 fn refused_at(refusal: u8, line: u32) -> FileBack
     ensures { λ r. ⌜ r ≡ fileBack (refusedAt refusal line) ⌝ }
 {
@@ -122,31 +118,30 @@ fn refused_at(refusal: u8, line: u32) -> FileBack
     }
 }
 
-// Places a file's records in turn on the first samples.
+// Places a file's records in turn on the first samples; where its lines are refused it has no blocks, and nothing is placed.
 fn fill(
-    z: SizeFields,
+    lines: LinesBack,
     samples: &mut [u8],
     list: &[u64],
     count: usize,
-    table: &[u8],
     texture: &[u8],
-    m: usize,
     kinds: &[u32],
     entries: &[u32],
     offs0: &[i32],
     offs1: &[i32],
 )
-    requires { ⌜ (z .values ≤ length (now table)) × (z .width * z .height ≤ length (now samples)) × (z .width ≤ 128) × (z .height ≤ 128) ⌝ }
-    requires { ⌜ m ≤ recordsLent (length (now kinds)) (length (now entries)) (length (now offs0)) (length (now offs1)) ⌝ }
-    requires { ⌜ ((i : ℕ) → i < m → placeRefusal (after i (stateOf (z .n) (z .width) (z .height) 0)) (z .width * z .height) (materialOf (now list) count (take (z .values) (now table)) (now texture)) (meant (recordAt (now kinds) (now entries) (now offs0) (now offs1) i)) ≡ 0) ⌝ }
-    ensures { λ _. ⌜ now (samples .exit) ≡ placedInTurn (stateOf (z .n) (z .width) (z .height) 0) (materialOf (now (list .entry)) count (take (z .values) (now (table .entry))) (now (texture .entry))) (λ i. meant (recordAt (now (kinds .entry)) (now (entries .entry)) (now (offs0 .entry)) (now (offs1 .entry)) i)) (take (z .width * z .height) (now (samples .entry))) m ++ drop (z .width * z .height) (now (samples .entry)) ⌝ }
+    requires { ⌜ (lines .values ≤ length (lines .table)) × (lines .width * lines .height ≤ length (now samples)) × (lines .width ≤ 128) × (lines .height ≤ 128) ⌝ }
+    requires { ⌜ blocksIn (linesSize lines) ≤ recordsLent (length (now kinds)) (length (now entries)) (length (now offs0)) (length (now offs1)) ⌝ }
+    requires { ⌜ ((i : ℕ) → i < blocksIn (linesSize lines) → placeRefusal (after i (sheetOf lines)) (lines .width * lines .height) (materialOf (now list) count (tableOf lines) (now texture)) (meant (recordAt (now kinds) (now entries) (now offs0) (now offs1) i)) ≡ 0) ⌝ }
+    ensures { λ _. ⌜ now (samples .exit) ≡ placedInTurn (sheetOf lines) (materialOf (now (list .entry)) count (tableOf lines) (now (texture .entry))) (λ i. meant (recordAt (now (kinds .entry)) (now (entries .entry)) (now (offs0 .entry)) (now (offs1 .entry)) i)) (take (lines .width * lines .height) (now (samples .entry))) (blocksIn (linesSize lines)) ++ drop (lines .width * lines .height) (now (samples .entry)) ⌝ }
 {
-    let area = z.width as usize * z.height as usize;
-    let values = z.values as usize;
+    let table = lines.table;
+    let area = lines.width as usize * lines.height as usize;
+    let values = lines.values as usize;
     let sheet = Sheet {
-        n: z.n,
-        width: z.width,
-        height: z.height,
+        n: lines.n,
+        width: lines.width,
+        height: lines.height,
         placed: 0,
     };
     place_all(
@@ -156,7 +151,7 @@ fn fill(
         count,
         &table[..values],
         texture,
-        m,
+        sheet.blocks() as usize,
         kinds,
         entries,
         offs0,
@@ -164,95 +159,29 @@ fn fill(
     );
 }
 
-// The records and the end of the file, and the samples of the sheet.
-fn read_rest(
-    bytes: &[u8],
-    from: Cursor,
-    z: SizeFields,
-    table: &[u8],
-    list: &[u64],
-    count: usize,
-    texture: &[u8],
-    samples: &mut [u8],
-    kinds: &mut [u32],
-    entries: &mut [u32],
-    offs0: &mut [i32],
-    offs1: &mut [i32],
-) -> LinesRead
-    requires { ⌜ (RestReady z (now table) (length (now texture))) × (ReadLengths (length (now samples)) (recordsLent (length (now kinds)) (length (now entries)) (length (now offs0)) (length (now offs1))) (length (now list)) count) ⌝ }
-    ensures answered { λ r. ⌜ linesTold (now (bytes .entry)) r ≡ only (restLines (aidsOf (now (list .entry)) count (now (texture .entry))) z (remaining (now (bytes .entry)) from)) ⌝ }
-    ensures kept { λ r. ⌜ _≡_ {A = Slices} (now (kinds .exit), (now (entries .exit), (now (offs0 .exit), now (offs1 .exit)))) (putOr (putRecords (now (kinds .entry), (now (entries .entry), (now (offs0 .entry), now (offs1 .entry))))) (restLines (aidsOf (now (list .entry)) count (now (texture .entry))) z (remaining (now (bytes .entry)) from)) (now (kinds .entry), (now (entries .entry), (now (offs0 .entry), now (offs1 .entry))))) ⌝ }
-    ensures drawn { λ r. ⌜ now (samples .exit) ≡ putOr (λ l. samplesBack (aidsOf (now (list .entry)) count (now (texture .entry))) (fileOf (z .n) (z .width) (z .height) (take (z .values) (now (table .entry))) l) (now (samples .entry))) (restLines (aidsOf (now (list .entry)) count (now (texture .entry))) z (remaining (now (bytes .entry)) from)) (now (samples .entry)) ⌝ }
+// The answer after the lines were read.
+fn told_back(lines: LinesBack) -> FileBack
+    requires { ⌜ blocksIn (linesSize lines) ≤ 1024 ⌝ }
+    ensures { λ r. ⌜ r ≡ backOf lines ⌝ }
 {
+    let table = lines.table;
     let sheet = Sheet {
-        n: z.n,
-        width: z.width,
-        height: z.height,
+        n: lines.n,
+        width: lines.width,
+        height: lines.height,
         placed: 0,
     };
-    let m = sheet.blocks() as usize;
-    let textured = texture.len() > 0;
-    let last = read_last(
-        bytes,
-        from,
-        z.n as usize,
-        list,
-        count,
-        textured,
-        m,
-        5 + z.values,
-        kinds,
-        entries,
-        offs0,
-        offs1,
-    );
-    match last {
-        LinesRead::Refused(number, line) => LinesRead::Refused(number, line),
-        LinesRead::Done(next) => {
-            fill(
-                z,
-                samples,
-                list,
-                count,
-                table,
-                texture,
-                m,
-                kinds,
-                entries,
-                offs0,
-                offs1,
-            );
-            LinesRead::Done(next)
-        }
-    }
-}
-
-// The answer after the lines before the records were read.
-fn told_back(last: LinesRead, z: SizeFields, table: [u8; 256]) -> FileBack
-    requires { ⌜ blocksIn z ≤ 1024 ⌝ }
-    ensures { λ r. ⌜ r ≡ backBy last z table ⌝ }
-{
-    let sheet = Sheet {
-        n: z.n,
-        width: z.width,
-        height: z.height,
-        placed: 0,
-    };
-    let blocks = sheet.blocks();
-    match last {
-        LinesRead::Refused(number, line) => refused_at(number, line),
-        LinesRead::Done(_) => FileBack {
-            refusal: 0,
-            line: 0,
-            sheet: Sheet {
-                n: z.n,
-                width: z.width,
-                height: z.height,
-                placed: blocks as u32,
-            },
-            values: z.values,
-            table,
+    FileBack {
+        refusal: lines.refusal,
+        line: lines.line,
+        sheet: Sheet {
+            n: lines.n,
+            width: lines.width,
+            height: lines.height,
+            placed: sheet.blocks() as u32,
         },
+        values: lines.values,
+        table,
     }
 }
 
@@ -277,25 +206,17 @@ pub fn read(
     if !read_lengths_ok(samples.len(), records, list.len(), count) {
         return refused_at(2, 0);
     }
-    let mut table = [0u8; 256];
-    match read_front(bytes, texture.len(), &mut table) {
-        SizeBack::Refused(number, line) => refused_at(number, line),
-        SizeBack::Value(z, from) => {
-            let last = read_rest(
-                bytes,
-                from,
-                z,
-                &table,
-                list,
-                count,
-                texture,
-                samples,
-                kinds,
-                entries,
-                offs0,
-                offs1,
-            );
-            told_back(last, z, table)
-        }
-    }
+    let lines = read_lines(bytes, list, count, texture, kinds, entries, offs0, offs1);
+    fill(
+        lines,
+        samples,
+        list,
+        count,
+        texture,
+        kinds,
+        entries,
+        offs0,
+        offs1,
+    );
+    told_back(lines)
 }

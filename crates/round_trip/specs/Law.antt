@@ -9,15 +9,16 @@ use lib.Seq.{sets}
 use Rattle.arith.specs.Checks.{given}
 use Rattle.arith.specs.Lists.{listOf}
 use Rattle.sheet.specs.State.{stateOf, area, blocksOf}
-use Rattle.sheet.specs.Place.{materialOf, placedInTurn}
+use Rattle.sheet.specs.Place.{materialOf}
 use Rattle.sheet_checks.specs.Checks.{recordsLent}
 use Rattle.record_file.specs.Text.{meant, recordAt}
 use Rattle.record_file.specs.Reading.{File, Aids, readFile}
 use Rattle.record_file.specs.Writing.{Source, sourceOf, spaceFor, writeAnswer, writeAfter}
 use Rattle.record_text.specs.Lines.{Lined}
+use Rattle.record_lines.specs.Stored.{Slices, putRecords}
+use Rattle.record_lines.specs.Back.{recordsBack, leaving}
 use Rattle.record_read.specs.declared.reading.FileBack.{FileBack}
-use Rattle.record_read.specs.Stored.{Slices, putRecords}
-use Rattle.record_read.specs.Back.{fileBack, recordsBack, samplesBack, leaving}
+use Rattle.record_read.specs.Back.{drawnOn, fileBack, samplesBack}
 
 -- what is lent to reading: samples, and records as a slice for each field
 pub record Lent : Type 0 where
@@ -55,8 +56,8 @@ pub record Enough (L : Lent) : Type 0 where
 -- the samples that placing the written records in turn on an empty sheet gives, with the table and the texture
 abbrev pub placedBy : Aids → Source → List ℕ
 placedBy A W =
-    placedInTurn (stateOf (W .sheet .n) (W .sheet .width) (W .sheet .height) 0) (materialOf (A .list) (A .count) (W .table) (A .texture))
-    (λ i. meant (W .record-at i)) (replicate (area (W .sheet)) 0) (blocksOf (W .sheet))
+    drawnOn (stateOf (W .sheet .n) (W .sheet .width) (W .sheet .height) 0) (materialOf (A .list) (A .count) (W .table) (A .texture))
+    (λ i. meant (W .record-at i))
 
 -- the bytes s read back as W: no refusal, the state and the table; the records, and the samples; past them what was there
 pub record ReadsBack (W : Source) (A : Aids) (L : Lent) (s : List ℕ) : Type 0 where

@@ -21,7 +21,8 @@ use Rattle.sheet_print.specs.Printed.{sheetText}
 use Rattle.sheet_print.proofs.PrintLaws.{sheet-same}
 use Rattle.record_read.specs.declared.reading.FileBack.{FileBack}
 use Rattle.record_file.specs.Reading.{File, Aids, readFile}
-use Rattle.record_read.specs.Back.{emptySheet, materialIn, recordIn, samplesBack, fileBack, leaving}
+use Rattle.record_lines.specs.Back.{leaving}
+use Rattle.record_read.specs.Back.{emptySheet, materialIn, recordIn, samplesBack, fileBack}
 use Rattle.sheet_text.specs.Showing.{sizeIn, aidsFor, samplesIn, textBy, readWith, shownText, showSpace, showRefusal, showAnswer, showAfter}
 use Rattle.record_file.proofs.LineBounds.{Below, lineEnd, read-below}
 use Rattle.sheet_text.proofs.SampleLaws.{file-fits, text-short}

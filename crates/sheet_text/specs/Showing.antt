@@ -4,19 +4,17 @@ use mathlib.Core.Path.{_≡_}
 use mathlib.Core.Bool.{cond}
 use mathlib.Core.List.{List, [], _++_}
 use lib.Dec.{leb}
-use lib.ListN.{length, take, drop, replicate}
+use lib.ListN.{length, take, drop}
 use Rattle.arith.specs.Checks.{unless, Answer, answer, lent}
 use Rattle.pattern.specs.Size.{sizeOk}
 use Rattle.wedgelet.specs.Wedgelet.{wedgeletList}
-use Rattle.sheet.specs.State.{area, blocksOf}
-use Rattle.sheet.specs.Place.{placedInTurn}
 use Rattle.record_text.specs.declared.cursor.SizeFields.{SizeFields}
 use Rattle.record_text.specs.Parsed.{Parsed, badForm, found, andThen, exactly}
 use Rattle.record_text.specs.Line.{sizeTitle, sizeLine}
 use Rattle.record_text.specs.Lines.{Lined, refusedAt, read}
 use Rattle.record_file.specs.Reading.{File, Aids, aidsOf, readFile}
 use Rattle.record_file.specs.Writing.{spaceFor}
-use Rattle.record_read.specs.Back.{emptySheet, materialIn, recordIn}
+use Rattle.record_read.specs.Back.{emptySheet, materialIn, recordIn, drawnOn}
 use Rattle.sheet_print.specs.Printed.{sheetText, refusalText}
 
 -- n of a size line, 0 where there is none
@@ -41,7 +39,7 @@ pub record Listing (n : ℕ) (list : List ℕ) (count : ℕ) : Type 0 where
 
 -- the samples that placing a file's records in turn on an empty sheet gives
 abbrev pub samplesIn : Aids → File → List ℕ
-samplesIn A F = placedInTurn (emptySheet F) (materialIn A F) (recordIn F) (replicate (area (emptySheet F)) 0) (blocksOf (emptySheet F))
+samplesIn A F = drawnOn (emptySheet F) (materialIn A F) (recordIn F)
 
 -- the text of what reading found
 abbrev pub textBy : Aids → Lined File → List ℕ

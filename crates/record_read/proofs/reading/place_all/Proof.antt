@@ -10,7 +10,7 @@ use Rattle.sheet.specs.Place.{Material, materialOf, placedInTurn}
 use Rattle.sheet.proofs.PlaceLaws.{length-placed}
 use Rattle.sheet.proofs.TurnLaws.{after-none, after-more}
 use Rattle.record_file.specs.Text.{meant, recordAt}
-use Rattle.record_read.proofs.PartLaws.{in-turn-none, in-turn-more}
+use Rattle.record_read.proofs.RestLaws.{in-turn-none, in-turn-more}
 use Rattle.record_read.proofs.reading.place_all.Statement.{statement}
 use Rattle.record_read.proofs.reading.place_all.Tie as tie
 

@@ -1,4 +1,4 @@
--- `read` meets its contract: the lengths, the lines before the records, and the rest.
+-- `read` meets its contract: the lengths, the lines, and the samples.
 use borrow.Author.Needs.{needs}
 use mathlib.Core.Path.{_≡_, sym, _∙_, ap}
 use Prim.Native.Nat.{ℕ}
@@ -7,19 +7,21 @@ use borrow.Author.Tests.{not-true, not-false}
 use lib.ListN.{length}
 use Rattle.sheet_checks.specs.Checks.{recordsLent}
 use Rattle.record_text.specs.Lines.{Lined}
-use Rattle.record_text.specs.Told.{remaining}
-use Rattle.record_file.specs.Reading.{File, Aids, aidsOf, fileLines, readLengthsOk, readFile}
-use Rattle.record_read.specs.Stored.{sizeBackTold}
-use Rattle.record_read.specs.Back.{fileBack, samplesBack, recordsBack, leaving}
+use Rattle.record_file.specs.Reading.{File, Aids, aidsOf, fileLines, readLengthsOk, ReadLengths, readFile}
 use Rattle.record_file.proofs.RoundTrip.{read-lengths}
-use Rattle.record_file.proofs.LineBounds.{blocks-few}
-use Rattle.record_read.proofs.BackLaws.{read-short, read-passed, file-no, FrontRead, front-is, back-is, kept-is, drawn-is, all-refused}
+use Rattle.record_lines.specs.Stored.{Slices}
+use Rattle.record_lines.specs.Back.{readLines, linesBack, recordsBack, leaving}
+use Rattle.record_lines.proofs.BackLaws.{lines-passed}
+use Rattle.record_read.proofs.BackLaws.{read-short, read-passed, all-refused, fits, blocks-fit, blocks-room, accepted, drawn, back-is}
 use Rattle.record_read.proofs.reading.read.Statement.{statement}
 use Rattle.record_read.proofs.reading.read.Tie as tie
 
--- what the file is read with, and what reading it gives
+-- what the file is read with, the lent records, and what reading it gives
 abbrev aids : (d : tie.Start) → Aids
 aids d = aidsOf (d .args .list .now) (d .args .count) (d .args .texture .now)
+
+abbrev slices : (d : tie.Start) → Slices
+slices d = (d .args .kinds .now, (d .args .entries .now, (d .args .offs0 .now, d .args .offs1 .now)))
 
 abbrev records : (d : tie.Start) → ℕ
 records d = recordsLent (length (d .args .kinds .now)) (length (d .args .entries .now)) (length (d .args .offs0 .now)) (length (d .args .offs1 .now))
@@ -37,16 +39,21 @@ lengths c =
 right : (c : tie.Else1) → let d = c .before .before .before .before .before .before .before .before .before in readLengthsOk (length (d .args .samples .now)) (records d) (length (d .args .list .now)) (d .args .count) ≡ true
 right c = sym (lengths (c .before)) ∙ not-false _ (c .if1 .left)
 
+enough : (c : tie.Else1) → let d = c .before .before .before .before .before .before .before .before .before in ReadLengths (length (d .args .samples .now)) (records d) (length (d .args .list .now)) (d .args .count)
+enough c = let d = c .before .before .before .before .before .before .before .before .before in read-lengths (length (d .args .samples .now)) (records d) (length (d .args .list .now)) (d .args .count) (right c)
+
 passed : (c : tie.Else1) → let d = c .before .before .before .before .before .before .before .before .before in reading d ≡ fileLines (aids d) (d .args .bytes .now)
 passed c = let d = c .before .before .before .before .before .before .before .before .before in read-passed (aids d) (length (d .args .samples .now)) (records d) (d .args .bytes .now) (right c)
 
--- the lines before the records
-front : (c : tie.After-z) → let d = c .before .before .before .before .before .before .before .before .before .before .before .before .before .before in let v = c .z .given .0 in FrontRead (aids d) (d .args .bytes .now) (v .0) (remaining (d .args .bytes .now) (v .1 .0)) (c .before .before .before .read-front .last .1 .1 .0)
-front c =
-    let d = c .before .before .before .before .before .before .before .before .before .before .before .before .before .before in
-    let v = c .z .given .0 in
-    let r = c .before .before .before .read-front in
-    front-is (aids d) (d .args .bytes .now) (v .0) (remaining (d .args .bytes .now) (v .1 .0)) (r .last .1 .1 .0) (sym (ap (sizeBackTold _) (c .z .given .1)) ∙ r .ensures .0) (r .ensures .1)
+-- the lines are read as the file is
+same : (c : tie.Else1) → let d = c .before .before .before .before .before .before .before .before .before in readLines (aids d) (records d) (d .args .bytes .now) ≡ reading d
+same c = let d = c .before .before .before .before .before .before .before .before .before in lines-passed (aids d) (d .args .bytes .now) (enough c .records-lent) ∙ sym (passed c)
+
+told : (c : tie.After-read-lines) → let d = c .before .before .before .before .before .before .before .before .before .before .before .before .before .before in c .read-lines .result ≡ linesBack (reading d)
+told c = c .read-lines .ensures .0 ∙ ap linesBack (same (c .before .before .before .before .before))
+
+left : (c : tie.After-read-lines) → let d = c .before .before .before .before .before .before .before .before .before .before .before .before .before .before in let w = c .read-lines .last in _≡_ {A = Slices} (w .1 .1 .1 .1 .0, (w .1 .1 .1 .1 .1 .0, (w .1 .1 .1 .1 .1 .1 .0, w .1 .1 .1 .1 .1 .1 .1 .0))) (leaving (reading d) (λ F. recordsBack F (slices d)) (slices d))
+left c = let d = c .before .before .before .before .before .before .before .before .before .before .before .before .before .before in c .read-lines .ensures .1 ∙ ap (λ (x : Lined File). leaving x (λ F. recordsBack F (slices d)) (slices d)) (same (c .before .before .before .before .before))
 
 records-lent-requires : tie.Need-records-lent-requires
 records-lent-requires c κs = search needs
@@ -60,45 +67,31 @@ refused-at-requires c κs = search needs
 returns : tie.Need-returns
 returns c =
     let d = c .before .before .before .before .before .before .before .before .before .before in
-    all-refused (aids d) (d .args .kinds .now, (d .args .entries .now, (d .args .offs0 .now, d .args .offs1 .now))) (d .args .samples .now)
+    all-refused (aids d) (slices d) (d .args .samples .now)
     (read-short (aids d) (length (d .args .samples .now)) (records d) (d .args .bytes .now) (sym (lengths (c .before .before)) ∙ not-true _ (c .before .if1 .taken))) (c .refused-at .ensures)
 
-slice-aggregate-read-front : tie.Need-slice-aggregate-read-front
-slice-aggregate-read-front c = search needs
+read-lines-requires : tie.Need-read-lines-requires
+read-lines-requires c κs = search needs
 
-read-front-requires : tie.Need-read-front-requires
-read-front-requires c κs = search needs
-
-enum-known-number : tie.Need-enum-known-number
-enum-known-number c = search needs
-
-refused-at-requires-2 : tie.Need-refused-at-requires-2
-refused-at-requires-2 c κs = search needs
-
-enum-known-z : tie.Need-enum-known-z
-enum-known-z c = search needs
-
-slice-aggregate-read-rest : tie.Need-slice-aggregate-read-rest
-slice-aggregate-read-rest c = search needs
-
-read-rest-requires : tie.Need-read-rest-requires
-read-rest-requires c κs =
-    let f = c .before .before .before .before .before .before .before in
-    let d = f .before .before .before .before .before .before .before .before .before .before .before .before .before .before in
-    (front f .ready, read-lengths (length (d .args .samples .now)) (records d) (length (d .args .list .now)) (d .args .count) (right (f .before .before .before .before .before)))
+fill-requires : tie.Need-fill-requires
+fill-requires c κs =
+    let w = c .before .before .before .before .before .before .before .before .before .before .before in
+    let d = w .before .before .before .before .before .before .before .before .before .before .before .before .before .before in
+    let l = enough (w .before .before .before .before .before) in
+    let x = sym (passed (w .before .before .before .before .before)) in (
+      fits (aids d) (d .args .bytes .now) (reading d) x (l .inside) (l .few) _ (told w) (l .samples-lent),
+      (
+        blocks-room (aids d) (d .args .bytes .now) (reading d) x (l .inside) (l .few) _ (told w) (slices d) (left w) (l .records-lent),
+        accepted (aids d) (d .args .bytes .now) (reading d) x (l .inside) (l .few) _ (told w) (slices d) (left w) (l .records-lent),
+      ),
+    )
 
 told-back-requires : tie.Need-told-back-requires
 told-back-requires c κs =
-    let f = c .before .before .before .before .before .before .before .before .before .before .before .before .before .before .before .before in
-    let d = f .before .before .before .before .before .before .before .before .before .before .before .before .before .before in
-    blocks-few (length (d .args .texture .now)) (f .z .given .0 .0) (front f .ready .size)
-
-returns-2 : tie.Need-returns-2
-returns-2 c =
-    let d = c .before .before .before .before .before .before .before .before .before .before .before .before .before .before .before .before in
-    let n = c .before .before in
-    all-refused (aids d) (d .args .kinds .now, (d .args .entries .now, (d .args .offs0 .now, d .args .offs1 .now))) (d .args .samples .now)
-    (passed (n .before .before .before .before .before) ∙ file-no (aids d) (d .args .bytes .now) (sym (ap (sizeBackTold _) (n .number .given .1)) ∙ n .before .before .before .read-front .ensures .0)) (c .refused-at2 .ensures)
+    let w = c .before .before .before .before .before .before .before .before .before .before .before .before .before .before in
+    let d = w .before .before .before .before .before .before .before .before .before .before .before .before .before .before in
+    let l = enough (w .before .before .before .before .before) in
+    blocks-fit (aids d) (d .args .bytes .now) (reading d) (sym (passed (w .before .before .before .before .before))) (l .inside) (l .few) _ (told w)
 
 same-length : tie.Need-same-length
 same-length c = search needs
@@ -115,19 +108,16 @@ same-length-4 c = search needs
 same-length-5 : tie.Need-same-length-5
 same-length-5 c = search needs
 
-returns-3 : tie.Need-returns-3
-returns-3 c =
-    let f = c .before .before .before .before .before .before .before .before .before .before .before .before .before .before .before .before .before in
-    let d = f .before .before .before .before .before .before .before .before .before .before .before .before .before .before in
-    let v = f .z .given .0 in
-    let u = remaining (d .args .bytes .now) (v .1 .0) in
-    let w = c .before .before .before .before .before .before .before .before .before .read-rest in
-    let t = f .before .before .before .read-front .last .1 .1 .0 in
-    let e = sym (passed (f .before .before .before .before .before)) in (
-      c .told-back .ensures ∙ back-is (aids d) (d .args .bytes .now) (v .0) u t (front f) (d .args .bytes .now) (w .result) (w .ensures .0) ∙ ap fileBack e,
+returns-2 : tie.Need-returns-2
+returns-2 c =
+    let w = c .before .before .before .before .before .before .before .before .before .before .before .before .before .before .before in
+    let d = w .before .before .before .before .before .before .before .before .before .before .before .before .before .before in
+    let l = enough (w .before .before .before .before .before) in
+    let x = sym (passed (w .before .before .before .before .before)) in (
+      c .told-back .ensures ∙ back-is (aids d) (d .args .bytes .now) (reading d) x (l .inside) (l .few) _ (told w),
       (
-        w .ensures .1 .0 ∙ kept-is (aids d) (d .args .bytes .now) (v .0) u t (front f) (d .args .kinds .now, (d .args .entries .now, (d .args .offs0 .now, d .args .offs1 .now))) ∙ ap (λ (x : Lined File). leaving x (λ F. recordsBack F (d .args .kinds .now, (d .args .entries .now, (d .args .offs0 .now, d .args .offs1 .now)))) (d .args .kinds .now, (d .args .entries .now, (d .args .offs0 .now, d .args .offs1 .now)))) e,
-        w .ensures .1 .1 ∙ drawn-is (aids d) (d .args .bytes .now) (v .0) u t (front f) (d .args .samples .now) ∙ ap (λ (x : Lined File). leaving x (λ F. samplesBack (aids d) F (d .args .samples .now)) (d .args .samples .now)) e,
+        left w,
+        drawn (aids d) (d .args .bytes .now) (reading d) x (l .inside) (l .few) _ (told w) (slices d) (left w) (l .records-lent) (d .args .samples .now) (c .before .before .before .fill .ensures),
       ),
     )
 
@@ -139,18 +129,12 @@ read-spec =
     read-lengths-ok-requires
     refused-at-requires
     returns
-    slice-aggregate-read-front
-    read-front-requires
-    enum-known-number
-    refused-at-requires-2
-    enum-known-z
-    slice-aggregate-read-rest
-    read-rest-requires
+    read-lines-requires
+    fill-requires
     told-back-requires
-    returns-2
     same-length
     same-length-2
     same-length-3
     same-length-4
     same-length-5
-    returns-3)
+    returns-2)

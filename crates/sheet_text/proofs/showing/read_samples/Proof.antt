@@ -8,7 +8,8 @@ use lib.ListN.{length, replicate, length-replicate}
 use Rattle.sheet_checks.specs.Checks.{recordsLent}
 use Rattle.record_text.specs.Lines.{Lined}
 use Rattle.record_file.specs.Reading.{File, Aids, aidsOf, readFile}
-use Rattle.record_read.specs.Back.{samplesBack, fileBack, leaving}
+use Rattle.record_read.specs.Back.{samplesBack, fileBack}
+use Rattle.record_lines.specs.Back.{leaving}
 use Rattle.sheet_text.specs.Showing.{readWith}
 use Rattle.sheet_text.proofs.ShowLaws.{lent-read}
 use Rattle.sheet_text.proofs.showing.read_samples.Statement.{statement}

@@ -1,0 +1,3 @@
+-- Laws of reading lines.
+pub mod ReadLaws
+pub mod PartLaws
