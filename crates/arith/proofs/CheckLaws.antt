@@ -3,7 +3,7 @@ use Prim.Native.Nat.{ℕ, zero, suc}
 use mathlib.Core.Path.{_≡_, refl, ap₂, _∙_}
 use mathlib.Core.Bool.{Bool, true, false}
 use native.Mathlib.Omega.{arith}
-use Rattle.arith.specs.Checks.{unless, Answer, refused, given, answer, lent}
+use Rattle.arith.specs.Checks.{unless, refused, given, answer, lent}
 
 -- no refusal: the check holds, and none after it fails
 pub passed : (b : Bool) (k rest : ℕ) → unless b (suc k) rest ≡ 0 → (b ≡ true) × (rest ≡ 0)

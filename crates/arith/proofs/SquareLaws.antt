@@ -1,13 +1,12 @@
 -- Laws of n rows of n places, and of transposing them. Assumes nothing.
 use Prim.Native.Nat.{ℕ, zero, suc, _+_, _*_, _/_, _%_, _≤_, _<_}
-use mathlib.Core.Path.{_≡_, refl, sym, ap, ap₂, _∙_}
+use mathlib.Core.Path.{_≡_, sym, ap, _∙_}
 use mathlib.Core.List.{List}
 use native.Mathlib.Nat.{mod-lt, div-lt-iff-lt-mul, div-add-mod', mul-le-mul}
 use native.Mathlib.Omega.{arith}
 use lib.Arith.{digits-lt, digits-div, digits-mod}
 use lib.ListN.{length, getD}
 use Rattle.arith.specs.Sum.{sumTo}
-use Rattle.arith.specs.Lists.{listOf}
 use Rattle.arith.specs.Square.{place, across, transposedList}
 use Rattle.arith.proofs.Sums.{sum-ext, sum-rows, sum-exchange}
 use Rattle.arith.proofs.ListLaws.{length-listOf, listOf-at, listOf-ext, listOf-own}

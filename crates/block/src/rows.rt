@@ -1,6 +1,6 @@
 // A block as an array of row arrays, filled up to its size.
 ghost use mathlib.Core.Path.{_≡_};
-ghost use Prim.Native.Nat.{ℕ, _+_, _*_, _<_, _≤_};
+ghost use Prim.Native.Nat.{_+_, _*_, _<_, _≤_};
 ghost use lib.ListN.{length, getD};
 ghost use Rattle.arith.specs.Lists.{upto};
 ghost use Rattle.arith.specs.Square.{place};

@@ -5,13 +5,13 @@ use mathlib.Core.List.{List}
 use mathlib.Core.Path.{_≡_, refl, sym, ap, _∙_}
 use borrow.Author.Tests.{le-leb}
 use lib.ListN.{length, replicate, length-replicate}
-use Rattle.arith.specs.Checks.{refused, given, answer}
+use Rattle.arith.specs.Checks.{refused, given}
 use Rattle.arith.proofs.CheckLaws.{given-means, refused-means}
 use Rattle.pattern.specs.Size.{sizeOk}
 use Rattle.wedgelet.specs.Wedgelet.{wedgeletList}
 use Rattle.wedgelet.specs.Answer.{needed, listRefusal, listAnswer, listAfter}
 use Rattle.wedgelet.proofs.AnswerLaws.{words-enough}
-use Rattle.choice_checks.specs.Case.{Case, caseOf}
+use Rattle.choice_checks.specs.Case.{caseOf}
 use Rattle.choice_checks.specs.Refusal.{chooseRefusal}
 use Rattle.choice.specs.Answer.{chooseAnswer}
 use Rattle.depth_bench.specs.Structs.{builtCase}

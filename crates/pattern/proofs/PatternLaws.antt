@@ -1,10 +1,10 @@
 -- Laws of patterns, mark by mark. Assumes nothing.
-use Prim.Native.Nat.{ℕ, zero, suc, _+_, _-_, _*_, _/_, _%_, _^_, _<_}
-use mathlib.Core.Bool.{Bool, true, false}
-use mathlib.Core.Path.{_≡_, refl, sym, ap, ap₂, _∙_}
+use Prim.Native.Nat.{ℕ, _-_, _*_, _/_, _%_, _^_, _<_}
+use mathlib.Core.Bool.{Bool, false}
+use mathlib.Core.Path.{_≡_, sym, ap, ap₂, _∙_}
 use lib.Arith.{digits-div, digits-mod}
 use lib.Count.{ones}
-use Rattle.arith.specs.Bits.{bit, bits, testBit}
+use Rattle.arith.specs.Bits.{bit, testBit}
 use Rattle.arith.specs.Square.{place, across}
 use Rattle.arith.specs.Sum.{sumTo}
 use Rattle.arith.proofs.BitLaws.{bits-lt, bits-ext, bits-at, bits-same, bits-none, zero-bit, ones-bits}

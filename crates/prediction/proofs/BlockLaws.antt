@@ -1,18 +1,15 @@
 -- Laws of the predicted block: its length, its range, and the form in which the code writes it. Assumes nothing.
 use Prim.Native.Nat.{ℕ, _*_, _<_}
-use mathlib.Core.Path.{_≡_, sym, ap, ap₂, _∙_}
+use mathlib.Core.Path.{_≡_, sym, ap₂, _∙_}
 use mathlib.Core.Bool.{Bool, true, false, cond, not}
 use mathlib.Core.List.{List}
 use lib.IntN.{ℤ}
 use lib.ListN.{length, getD}
 use Rattle.arith.specs.Bits.{testBit}
 use Rattle.arith.specs.Checks.{lent}
-use Rattle.arith.specs.Distance.{clamped}
 use Rattle.arith.specs.Lists.{listOf}
 use Rattle.arith.proofs.CheckLaws.{lent-given}
 use Rattle.arith.proofs.ListLaws.{length-listOf, listOf-at, listOf-ext}
-use Rattle.depth_table.specs.Table.{tableOk, indexOf}
-use Rattle.depth_table.proofs.TableLaws.{table-bytes}
 use Rattle.sides.specs.Sides.{sideDepth}
 use Rattle.sides.specs.Answer.{sidesRefusal}
 use Rattle.offset.specs.Offset.{levelOf}

@@ -52,9 +52,6 @@ module _ {A B : Type 0} (k : ℕ) (meaning : A → ℕ) (next : A → List ℕ �
       go (suc n) e h = refused-read h
 
 module _ {A B : Type 0} (next : A → List ℕ → Lined B) where
-  pub lines-refused : {x : Lined A} {n k : ℕ} → x ≡ refusedAt n k → linesThen x next ≡ refusedAt n k
-  lines-refused h = rw h
-
   pub lines-read : {x : Lined A} {a : A} {s : List ℕ} → x ≡ read a s → linesThen x next ≡ next a s
   lines-read h = rw h
 

@@ -31,10 +31,9 @@ use Rattle.record_file.proofs.LineBounds.{Below, lineEnd, blocks-few, read-belo
 use Rattle.record_file.proofs.RefusalLaws.{accepted-parts, accepted-head, accepted-small}
 use Rattle.record_file.proofs.RoundTrip.{heldBy, sheetOf, written-then-read, read-then-text, read-then-written, read-parts}
 use Rattle.record_lines.specs.Stored.{putRecords}
-use Rattle.record_lines.specs.Back.{recordsBack, leaving}
 use Rattle.record_read.specs.Back.{fileBack, emptySheet, materialIn, recordIn, samplesBack}
 use Rattle.record_read.proofs.RestLaws.{record-back, lent-same, in-turn-ext}
-use Rattle.round_trip.specs.Law.{Lent, lentRecords, reading, answered, recordsLeft, TextureFits, Enough, placedBy, ReadsBack, WrittenReadsBack, readSource, ReadWritesBack, RoundTrips}
+use Rattle.round_trip.specs.Law.{Lent, lentRecords, reading, TextureFits, Enough, placedBy, ReadsBack, ReadWritesBack, RoundTrips}
 use Rattle.round_trip.proofs.LengthLaws.{area-lent, text-fits}
 
 -- ---- what is written

@@ -2,7 +2,7 @@
 use Prim.Native.Nat.{ℕ, zero, suc, _+_, _-_, _*_, _/_, _%_, _≤_, _<_, min}
 use mathlib.Core.Bool.{Bool, true, false, cond}
 use mathlib.Core.List.{List}
-use mathlib.Core.Logic.{_⊎_, inl, inr, ⊎-elim}
+use mathlib.Core.Logic.{_⊎_, inl, inr}
 use mathlib.Core.Path.{_≡_, refl, ap, _∙_}
 use native.Mathlib.Nat.{mul-le-mul-right, suc-mul, mod-lt, div-lt-iff-lt-mul, le-div-iff-mul-le, div-add-mod'}
 use native.Mathlib.Omega.{arith}
@@ -150,7 +150,3 @@ module _ (n w h k : ℕ) (some : 1 ≤ n) (wide : n ≤ w) (inner : k < blocks n
       go : {v : ℕ} (c : Source) → Earlier n w h k c → v ≡ readFrom s c → (v ≡ 128) ⊎ SampleBefore n w (w * h) k s v
       go (sample j) e q = inr (record { index = j; inside = e .0; before = e .1; there = q })
       go nowhere e q = inl q
-
-  -- hence a byte, where the samples are bytes
-  pub neighbour-byte : (s : List ℕ) → ((j : ℕ) → getD s j 0 < 256) → (i : ℕ) → i < 4 * n → getD (neighbours n w k s) i 0 < 256
-  neighbour-byte s bytes i l = ⊎-elim (λ e. omega arith) (λ p. omega (arith, p .there, bytes (p .index))) (neighbour-from s i l)

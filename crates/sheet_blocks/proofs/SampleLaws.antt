@@ -63,16 +63,7 @@ pub length-written : (n w x y : ℕ) (b s : List ℕ) → length (written n w x 
 unfolding written
 length-written n w x y b s = length-listOf (writtenAt n w x y b s) (length s)
 
--- a sample of the block is the block's
-pub written-in :
-    (n w x y : ℕ) (b s : List ℕ) (i r : ℕ) → Inside n w (length s) x y → i < n → r < n
-    → getD (written n w x y b s) (place w (x + i) (y + r)) 0 ≡ getD b (place n i r) 0
-unfolding written
-written-in n w x y b s i r p hi hr =
-    listOf-at (writtenAt n w x y b s) 0 (length s) (place w (x + i) (y + r)) (sample-in i r p hi hr)
-    ∙ rw (covers-here n w x y i r (p .across) hi hr, index-here n w x y i r (p .across) hi)
-
--- the same by the sample's own place
+-- a sample of the block is the block's, by its own place
 pub written-covered :
     (n w x y : ℕ) (b s : List ℕ) (j : ℕ) → j < length s → covers n x y (j % w) (j / w) ≡ true
     → getD (written n w x y b s) j 0 ≡ getD b (place n (j % w - x) (j / w - y)) 0

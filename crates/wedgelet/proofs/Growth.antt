@@ -1,16 +1,16 @@
 -- The list as it grows, candidate by candidate, its length, and a loop that stores it in the front of a slice. Assumes nothing.
 use Prim.Native.Nat.{ℕ, zero, suc, _+_, _-_, _*_, _≤_, _<_}
 use mathlib.Core.Bool.{Bool, true, false, cond, _||_, or-true}
-use mathlib.Core.List.{List, [], _∷_, _++_, append-assoc}
+use mathlib.Core.List.{List, [], _∷_, _++_}
 use mathlib.Core.Logic.{_⊎_, ⊎-elim, inl, inr}
 use mathlib.Core.Path.{_≡_, refl, sym, ap, ap₂, _∙_, subst}
 use native.Mathlib.Nat.{mul-le-mul-right, suc-mul, add-zero, add-suc, add-sub-of-le}
 use native.Mathlib.Numerals.{add-one}
 use native.Mathlib.Omega.{arith}
 use native.Mathlib.Decide.{decLe}
-use borrow.Author.Tests.{eq-eqb, ne-eqb, eqb-true, eqb-false}
+use borrow.Author.Tests.{eq-eqb, ne-eqb}
 use lib.Dec.{eqb}
-use lib.ListN.{length, getD, drop, set, length-append, length-set, length-drop, List·getD-append}
+use lib.ListN.{length, getD, drop, set, length-append, length-set, List·getD-append}
 use lib.Seq.{drop-cons, set-at, append-snoc, drop-append-seam, drop-append-add, drop-drop}
 use Rattle.wedgelet.specs.Wedgelet.{points, wedgelet, holds, keep, ends, starts, wedgeletList}
 use Rattle.arith.proofs.ListLaws.{length-end}

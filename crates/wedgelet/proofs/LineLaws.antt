@@ -1,9 +1,9 @@
 -- The line rule over whole numbers is a test of three products on each side, over natural numbers. Assumes nothing.
 use Prim.Native.Nat.{ℕ, zero, suc, _+_, _-_, _*_, _≤_, _<_}
-use mathlib.Core.Bool.{Bool, true, false, cond, not}
+use mathlib.Core.Bool.{Bool, true, false, cond}
 use mathlib.Core.Logic.{_⊎_, ⊎-elim, inl, inr}
-use mathlib.Core.Path.{_≡_, refl, sym, ap, ap₂, _∙_}
-use native.Mathlib.Nat.{mul-add, add-mul, mul-comm, mul-suc, suc-mul}
+use mathlib.Core.Path.{_≡_, refl, sym, ap₂, _∙_}
+use native.Mathlib.Nat.{mul-add, add-mul, mul-comm}
 use native.Mathlib.Decide.{decLe}
 use native.Mathlib.Omega.{arith}
 use borrow.Author.Tests.{ltb-true, ltb-false, lt-ltb, le-ltb}

@@ -1,20 +1,19 @@
 -- For every n the wedgelet list has no zero word, no word twice and none that marks (0,0), and the transposed pattern of each entry
 -- is exactly one entry. Assumes nothing.
-use Prim.Native.Nat.{ℕ, zero, suc, _+_, _-_, _*_, _/_, _%_, _^_, _≤_, _<_}
-use mathlib.Core.Bool.{Bool, true, false, cond, _||_, or-true, or-false, false≢true, true≢false}
+use Prim.Native.Nat.{ℕ, zero, suc, _+_, _-_, _*_, _^_, _≤_, _<_}
+use mathlib.Core.Bool.{Bool, true, false, cond, _||_, false≢true, true≢false}
 use mathlib.Core.List.{List, [], _∷_, _++_}
-use mathlib.Core.Logic.{_⊎_, ⊎-elim, inl, inr}
-use mathlib.Core.Path.{_≡_, refl, sym, ap, ap₂, _∙_, subst}
-use native.Mathlib.Nat.{eq-or-lt-of-le, le-of-suc-le-suc, zero-div, zero-mod, div-add-mod'}
-use native.Mathlib.Numerals.{add-one}
+use mathlib.Core.Logic.{_⊎_, ⊎-elim}
+use mathlib.Core.Path.{_≡_, refl, sym, ap, _∙_, subst}
+use native.Mathlib.Nat.{eq-or-lt-of-le, le-of-suc-le-suc}
 use native.Mathlib.Omega.{arith}
-use borrow.Author.Tests.{eq-eqb, ne-eqb, eqb-true, eqb-false}
+use borrow.Author.Tests.{ne-eqb, eqb-true, eqb-false}
 use lib.Dec.{eqb}
-use lib.ListN.{length, getD, length-append, List·getD-append}
+use lib.ListN.{length, getD, List·getD-append}
 use lib.Seq.{getD-append-seam}
 use Rattle.pattern.specs.Pattern.{mark, transposed}
 use Rattle.wedgelet.specs.Wedgelet.{points, wedgelet, holds, keep, ends, starts, wedgeletList}
-use Rattle.wedgelet.specs.Laws.{Nonzero, Distinct, OriginUnmarked, Once, TransposeClosed}
+use Rattle.wedgelet.specs.Laws.{Nonzero, Distinct, OriginUnmarked, TransposeClosed}
 use Rattle.arith.proofs.ListLaws.{length-end}
 use Rattle.pattern.proofs.PatternLaws.{transposed-nonzero}
 use Rattle.wedgelet.proofs.PointLaws.{acrossPoint, across-point-lt, across-injective, wedgelet-lt, wedgelet-origin, wedgelet-transposed}

@@ -1,6 +1,6 @@
 -- The wedgelet list (document 01: the edge list). Assumes nothing.
 use Prim.Native.Nat.{ℕ, zero, suc, _-_, _*_}
-use mathlib.Core.Bool.{Bool, true, false, cond, _||_}
+use mathlib.Core.Bool.{Bool, false, cond, _||_}
 use mathlib.Core.List.{List, [], _∷_, _++_}
 use lib.Dec.{eqb, ltb}
 use lib.IntN.{pos, _-ℤ_, _*ℤ_}

@@ -1,6 +1,6 @@
 // The wedgelet list.
 ghost use mathlib.Core.Path.{_≡_};
-ghost use Prim.Native.Nat.{ℕ, _+_, _*_, _^_, _≤_, _<_};
+ghost use Prim.Native.Nat.{_+_, _*_, _^_, _≤_, _<_};
 ghost use lib.ListN.{length, drop};
 ghost use mathlib.Core.List.{_++_};
 ghost use Rattle.pattern.specs.Pattern.{pattern, complement};

@@ -1,8 +1,7 @@
 -- `put_samples` meets its contract: after k samples the first k places hold the block's. Assumes nothing.
 use Prim.Native.Nat.{ℕ, _-_, _*_, _/_, _%_, _≤_, _<_}
-use mathlib.Core.Path.{_≡_, refl, _∙_}
+use mathlib.Core.Path.{_≡_, refl}
 use native.Mathlib.Omega.{arith}
-use borrow.Author.Needs.{needs}
 use lib.ListN.{length, getD, length-set}
 use Rattle.arith.proofs.ListLaws.{stored, stored-all}
 use Rattle.arith.proofs.SquareLaws.{positive, column-lt, row-lt, square-le}

@@ -1,13 +1,13 @@
 -- `rows_of` meets its contract: after y rows the first y are filled. Assumes nothing.
-use Prim.Native.Nat.{ℕ, _+_, _*_, _-_, _≤_}
-use mathlib.Core.Path.{_≡_, refl, sym}
+use Prim.Native.Nat.{_-_, _≤_}
+use mathlib.Core.Path.{_≡_, sym}
 use native.Mathlib.Omega.{arith}
 use borrow.Author.Needs.{needs}
 use lib.ListN.{getD, replicate}
 use Rattle.arith.specs.Lists.{upto}
 use Rattle.arith.specs.Square.{place}
 use Rattle.arith.proofs.ListLaws.{upto-none, fill-by, fill-end}
-use Rattle.block.specs.Block.{sample, blockBy}
+use Rattle.block.specs.Block.{blockBy}
 use Rattle.block.proofs.rows.rows_of.Statement.{statement}
 use Rattle.block.proofs.rows.rows_of.Tie as tie
 

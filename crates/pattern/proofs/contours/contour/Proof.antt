@@ -5,7 +5,7 @@ use native.Mathlib.Omega.{arith}
 use lib.Dec.{ltb}
 use lib.ListN.{length, getD}
 use Rattle.arith.specs.Bits.{bits}
-use Rattle.arith.specs.Checks.{refused, given, answer}
+use Rattle.arith.specs.Checks.{refused, given}
 use Rattle.arith.proofs.CheckLaws.{answer-refused, answer-given}
 use Rattle.pattern.specs.Answer.{samplesRefusal, contourAnswer}
 use Rattle.pattern.specs.Contour.{contourOf}

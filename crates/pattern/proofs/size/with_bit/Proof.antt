@@ -1,6 +1,6 @@
 -- `with_bit` meets its contract: where the shift leaves nothing the bit is free, and adding it sets it. Assumes nothing.
-use Prim.Native.Nat.{_+_, _^_, _<_}
-use mathlib.Core.Path.{_≡_, sym, _∙_}
+use Prim.Native.Nat.{_^_, _<_}
+use mathlib.Core.Path.{sym, _∙_}
 use native.Mathlib.Omega.{arith}
 use borrow.Author.Needs.{needs}
 use borrow.Author.Tests.{le-ltb}

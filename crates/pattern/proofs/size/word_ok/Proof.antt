@@ -1,6 +1,6 @@
 -- `word_ok` meets its contract: the shift leaves nothing just where no bit stands from n * n up. Assumes nothing.
 use Prim.Native.Nat.{_*_, _≤_}
-use mathlib.Core.Path.{_≡_, sym}
+use mathlib.Core.Path.{sym}
 use native.Mathlib.Omega.{arith}
 use Rattle.arith.proofs.SquareLaws.{square-le}
 use Rattle.pattern.proofs.SizeLaws.{word-fits, shifted-none}

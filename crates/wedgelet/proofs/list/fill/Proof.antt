@@ -1,9 +1,9 @@
 -- `fill` meets its contract: after each candidate the front of the slice holds the list so far, and the rest its old content. Assumes nothing.
 use borrow.Author.Needs.{needs}
-use borrow.Author.Count.{below-none, below-more}
-use Prim.Native.Nat.{ℕ, _+_, _-_, _*_, _≤_, _<_}
-use mathlib.Core.Path.{_≡_, refl, sym, ap, _∙_, subst}
-use mathlib.Core.List.{List, [], _∷_, _++_}
+use borrow.Author.Count.{below-more}
+use Prim.Native.Nat.{ℕ, _+_, _-_, _≤_, _<_}
+use mathlib.Core.Path.{_≡_, refl, sym, ap, _∙_}
+use mathlib.Core.List.{_++_}
 use native.Mathlib.Omega.{arith}
 use native.Mathlib.Numerals.{add-one}
 use lib.ListN.{length, getD, drop}
