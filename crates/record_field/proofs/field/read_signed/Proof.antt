@@ -4,14 +4,14 @@ use mathlib.Core.Path.{_≡_, sym, _∙_, ap}
 use native.Mathlib.Omega.{arith}
 use borrow.Author.Needs.{needs}
 use lib.ListN.{drop}
-use Rattle.record_text.specs.Field.{number}
-use Rattle.record_text.specs.Parsed.{found}
-use Rattle.record_text.specs.Told.{numberTold}
-use Rattle.record_text.proofs.FieldLaws.{number-wrote}
-use Rattle.record_text.proofs.SignLaws.{word-back}
-use Rattle.record_text.proofs.ReadSteps.{past, signed-nil, signed-negative, signed-minus-zero, signed-minus-bad, signed-positive, signed-bad}
-use Rattle.record_text.proofs.field.read_signed.Statement.{statement}
-use Rattle.record_text.proofs.field.read_signed.Tie as tie
+use Rattle.record_field.specs.Field.{number}
+use Rattle.record_field.specs.Parsed.{found}
+use Rattle.record_field.specs.Told.{numberTold}
+use Rattle.record_field.proofs.FieldLaws.{number-wrote}
+use Rattle.record_field.proofs.SignLaws.{word-back}
+use Rattle.record_field.proofs.ReadSteps.{past, signed-nil, signed-negative, signed-minus-zero, signed-minus-bad, signed-positive, signed-bad}
+use Rattle.record_field.proofs.field.read_signed.Statement.{statement}
+use Rattle.record_field.proofs.field.read_signed.Tie as tie
 
 -- what the call of `read_number` found, after a minus and without one
 minus-found :

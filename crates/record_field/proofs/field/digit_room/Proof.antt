@@ -1,8 +1,8 @@
 -- `digit_room` meets its contract, by whether the digit is 0. Assumes nothing.
 use borrow.Author.Needs.{needs}
-use Rattle.record_text.proofs.ReadSteps.{room-four}
-use Rattle.record_text.proofs.field.digit_room.Statement.{statement}
-use Rattle.record_text.proofs.field.digit_room.Tie as tie
+use Rattle.record_field.proofs.ReadSteps.{room-four}
+use Rattle.record_field.proofs.field.digit_room.Statement.{statement}
+use Rattle.record_field.proofs.field.digit_room.Tie as tie
 
 returns : tie.Need-returns
 returns c = search needs

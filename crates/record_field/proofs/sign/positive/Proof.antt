@@ -1,8 +1,8 @@
 -- `positive` meets its contract: a number below 2 ^ 31 keeps its value. Assumes nothing.
 use borrow.Author.Needs.{needs}
-use Rattle.record_text.proofs.SignLaws.{positive-is}
-use Rattle.record_text.proofs.sign.positive.Statement.{statement}
-use Rattle.record_text.proofs.sign.positive.Tie as tie
+use Rattle.record_field.proofs.SignLaws.{positive-is}
+use Rattle.record_field.proofs.sign.positive.Statement.{statement}
+use Rattle.record_field.proofs.sign.positive.Tie as tie
 
 cast-result : tie.Need-cast-result
 cast-result c = search needs

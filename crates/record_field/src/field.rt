@@ -2,9 +2,9 @@
 ghost use mathlib.Core.Path.{_≡_};
 ghost use Prim.Native.Nat.{_+_, _*_, _^_, _≤_};
 ghost use lib.ListN.{drop};
-ghost use Rattle.record_text.specs.Numeral.{numeralEnd};
-ghost use Rattle.record_text.specs.Field.{digitIn, moreDigits, digitRoom, number, signed};
-ghost use Rattle.record_text.specs.Told.{remaining, numberTold, signedTold};
+ghost use Rattle.record_field.specs.Numeral.{numeralEnd};
+ghost use Rattle.record_field.specs.Field.{digitIn, moreDigits, digitRoom, number, signed};
+ghost use Rattle.record_field.specs.Told.{remaining, numberTold, signedTold};
 use crate::cursor::Cursor;
 use crate::sign::negative;
 use crate::sign::positive;

@@ -6,11 +6,11 @@ use mathlib.Core.List.{_∷_}
 use native.Mathlib.Omega.{arith}
 use borrow.Author.Needs.{needs}
 use lib.ListN.{length, drop, getD}
-use Rattle.record_text.specs.Numeral.{numeralEnd}
-use Rattle.record_text.specs.Field.{moreDigits}
-use Rattle.record_text.proofs.ReadSteps.{at-place, past, more-nil, more-stop, more-full, more-none, more-next, value-grows, value-small}
-use Rattle.record_text.proofs.field.read_digits.Statement.{statement}
-use Rattle.record_text.proofs.field.read_digits.Tie as tie
+use Rattle.record_field.specs.Numeral.{numeralEnd}
+use Rattle.record_field.specs.Field.{moreDigits}
+use Rattle.record_field.proofs.ReadSteps.{at-place, past, more-nil, more-stop, more-full, more-none, more-next, value-grows, value-small}
+use Rattle.record_field.proofs.field.read_digits.Statement.{statement}
+use Rattle.record_field.proofs.field.read_digits.Tie as tie
 
 abbrev Inv-loop : tie.InvT-loop
 Inv-loop bytes at end most first p₀ left₀ value₀ p left value =

@@ -1,9 +1,9 @@
 -- `negative` meets its contract: 0 - v fits and is -v. Assumes nothing.
 use borrow.Author.Needs.{needs}
 use mathlib.Core.Path.{_∙_}
-use Rattle.record_text.proofs.SignLaws.{word-back, negative-is, negative-fits}
-use Rattle.record_text.proofs.sign.negative.Statement.{statement}
-use Rattle.record_text.proofs.sign.negative.Tie as tie
+use Rattle.record_field.proofs.SignLaws.{word-back, negative-is, negative-fits}
+use Rattle.record_field.proofs.sign.negative.Statement.{statement}
+use Rattle.record_field.proofs.sign.negative.Tie as tie
 
 cast-z : tie.Need-cast-z
 cast-z c = search needs

@@ -11,9 +11,9 @@ use lib.Seq.{drop-cons}
 use lib.IntN.{ℤ, pos, negsuc}
 use lib.Dec.{ltb}
 use borrow.Author.Tests.{ltb-true, eq-eqb, ne-eqb}
-use Rattle.record_text.specs.Numeral.{numeralEnd}
-use Rattle.record_text.specs.Parsed.{Parsed, badForm, found, andThen, exactly}
-use Rattle.record_text.specs.Field.{digitIn, ifDigit, moreDigits, digitRoom, number, afterMinus, afterNone, signed}
+use Rattle.record_field.specs.Numeral.{numeralEnd}
+use Rattle.record_field.specs.Parsed.{Parsed, badForm, found, andThen}
+use Rattle.record_field.specs.Field.{digitIn, ifDigit, moreDigits, digitRoom, number, afterMinus, afterNone, signed}
 
 -- what stands at p, and the rest
 pub at-place : (s : List ℕ) (p : ℕ) → p < length s → drop p s ≡ getD s p 0 ∷ drop (p + 1) s
@@ -147,23 +147,3 @@ module _ (e : ℕ) (s : List ℕ) (at : ℕ) (h : at < length s) where
 
   pub signed-bad : (getD s at 0 ≡ 45 → ⊥) → number e (drop at s) ≡ badForm → badForm ≡ signed e (drop at s)
   signed-bad b n = rw (signed-none b, n)
-
--- ---- a text, byte by byte: i of w are passed, and p is reached
-
-module _ (w s : List ℕ) (i p : ℕ) where
-  pub text-step :
-      i < length w → p < length s → getD s p 0 ≡ getD w i 0 → exactly (drop i w) (drop p s) ≡ exactly (drop (i + 1) w) (drop (p + 1) s)
-  unfolding exactly
-  text-step h l e = rw (at-place w i h, at-place s p l, eq-eqb (getD s p 0) (getD w i 0) e)
-
-  pub text-other : i < length w → p < length s → (getD s p 0 ≡ getD w i 0 → ⊥) → exactly (drop i w) (drop p s) ≡ badForm
-  unfolding exactly
-  text-other h l e = rw (at-place w i h, at-place s p l, ne-eqb (getD s p 0) (getD w i 0) e)
-
-  pub text-past : i < length w → length s ≤ p → exactly (drop i w) (drop p s) ≡ badForm
-  unfolding exactly
-  text-past h l = rw (at-place w i h, past s p l)
-
-  pub text-end : length w ≤ i → exactly (drop i w) (drop p s) ≡ found tt (drop p s)
-  unfolding exactly
-  text-end h = rw (past w i h)

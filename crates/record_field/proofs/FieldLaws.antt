@@ -9,12 +9,12 @@ use mathlib.Core.Logic.{⊎-elim}
 use lib.Dec.{ltb, eqb}
 use lib.IntN.{ℤ, pos, negsuc, natAbs}
 use borrow.Author.Tests.{ltb-true, ltb-false, eqb-true, lt-ltb, le-ltb, eq-eqb, ne-eqb}
-use Rattle.record_text.specs.Numeral.{digitsOf, furtherDigits, numeral, signedNumeral, numeralEnd}
-use Rattle.record_text.specs.Parsed.{Parsed, badForm, found, andThen}
-use Rattle.record_text.specs.Field.{ifDigit, moreDigits, digitRoom, number, afterMinus, afterNone, signed, numberText, signedText}
-use Rattle.record_text.specs.Codec.{Codec, NumberPrintable, SignedPrintable}
-use Rattle.record_text.proofs.ParsedLaws.{cond-elim, bad-found}
-use Rattle.record_text.proofs.NumeralLaws.{ten-pow, ten-mono, digit-lt, digits-below, digit-before, carry, further-le, further-high, further-low, further-is, further-none}
+use Rattle.record_field.specs.Numeral.{digitsOf, furtherDigits, numeral, signedNumeral, numeralEnd}
+use Rattle.record_field.specs.Parsed.{Parsed, badForm, found, andThen}
+use Rattle.record_field.specs.Field.{ifDigit, moreDigits, digitRoom, number, afterMinus, afterNone, signed, numberText, signedText}
+use Rattle.record_field.specs.Codec.{Codec, NumberPrintable, SignedPrintable}
+use Rattle.record_field.proofs.ParsedLaws.{cond-elim, bad-found}
+use Rattle.record_field.proofs.NumeralLaws.{ten-pow, ten-mono, digit-lt, digits-below, digit-before, carry, further-le, further-high, further-low, further-is, further-none}
 
 -- ---- what is printed is read
 

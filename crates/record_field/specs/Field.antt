@@ -4,8 +4,8 @@ use mathlib.Core.Bool.{cond}
 use mathlib.Core.List.{List, [], _∷_, _++_}
 use lib.Dec.{ltb, eqb}
 use lib.IntN.{ℤ, pos, negsuc}
-use Rattle.record_text.specs.Numeral.{numeral, signedNumeral}
-use Rattle.record_text.specs.Parsed.{Parsed, Parser, badForm, found, andThen}
+use Rattle.record_field.specs.Numeral.{numeral, signedNumeral}
+use Rattle.record_field.specs.Parsed.{Parsed, Parser, badForm, found, andThen}
 
 -- what follows, where the byte b is a digit
 abbrev pub ifDigit : {A : Type 0} → ℕ → Parsed A → Parsed A

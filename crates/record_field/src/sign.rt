@@ -2,7 +2,7 @@
 ghost use mathlib.Core.Path.{_≡_};
 ghost use Prim.Native.Nat.{_-_, _<_};
 ghost use lib.IntN.{pos, negsuc};
-ghost use Rattle.record_text.specs.Numeral.{numeralEnd};
+ghost use Rattle.record_field.specs.Numeral.{numeralEnd};
 
 // v as a signed number.
 pub(crate) fn positive(v: u32) -> i32

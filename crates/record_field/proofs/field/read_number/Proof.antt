@@ -4,10 +4,10 @@ use mathlib.Core.Path.{_≡_, sym, _∙_, ap}
 use mathlib.Core.List.{_∷_}
 use borrow.Author.Needs.{needs}
 use lib.ListN.{drop, getD}
-use Rattle.record_text.specs.Field.{number}
-use Rattle.record_text.proofs.ReadSteps.{at-place, past, number-nil, number-none, number-digit, first-small}
-use Rattle.record_text.proofs.field.read_number.Statement.{statement}
-use Rattle.record_text.proofs.field.read_number.Tie as tie
+use Rattle.record_field.specs.Field.{number}
+use Rattle.record_field.proofs.ReadSteps.{at-place, past, number-nil, number-none, number-digit, first-small}
+use Rattle.record_field.proofs.field.read_number.Statement.{statement}
+use Rattle.record_field.proofs.field.read_number.Tie as tie
 
 returns : tie.Need-returns
 returns c = sym (number-nil _ _ (past _ _ (c .if1 .taken)))

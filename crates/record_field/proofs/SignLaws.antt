@@ -6,7 +6,7 @@ use lib.IntN.{ℤ, pos, negsuc, _-ℤ_, +ℤ-idl}
 use mir.Syntax.{w32}
 use mir.Val.{SFits, toZ, ofZ}
 use mir.ValLaws.{toZ-pos, toZ-ofZ}
-use Rattle.record_text.specs.Numeral.{numeralEnd}
+use Rattle.record_field.specs.Numeral.{numeralEnd}
 
 -- a number that fits stands for itself
 pub word-back : (z : ℤ) → SFits w32 z → toZ w32 (ofZ w32 z) ≡ z

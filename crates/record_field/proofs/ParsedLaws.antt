@@ -5,8 +5,8 @@ use mathlib.Core.Bool.{Bool, true, false, cond}
 use mathlib.Core.List.{List, [], _∷_, _++_, append-assoc}
 use lib.Dec.{eqb}
 use borrow.Author.Tests.{eq-eqb, eqb-true}
-use Rattle.record_text.specs.Parsed.{Parsed, Parser, badForm, found, andThen, _then_, mapped, exactly}
-use Rattle.record_text.specs.Codec.{Codec}
+use Rattle.record_field.specs.Parsed.{Parsed, Parser, badForm, found, andThen, _then_, mapped, exactly}
+use Rattle.record_field.specs.Codec.{Codec}
 
 -- a choice by a test, each side with what the test says there
 pub cond-elim : {A : Type 0} (P : A → Type 0) (b : Bool) (x y : A) → (b ≡ true → P x) → (b ≡ false → P y) → P (cond b x y)

@@ -9,8 +9,8 @@ use lib.Arith.{digits-div, digits-mod, digits-lt}
 use lib.Dec.{ltb}
 use lib.ListN.{length}
 use borrow.Author.Tests.{ltb-true, ltb-false, lt-ltb}
-use Rattle.record_text.specs.Numeral.{digitsOf, furtherDigits, numeral}
-use Rattle.record_text.proofs.ParsedLaws.{cond-elim}
+use Rattle.record_field.specs.Numeral.{digitsOf, furtherDigits, numeral}
+use Rattle.record_field.proofs.ParsedLaws.{cond-elim}
 
 pub ten-pow : (k : ℕ) → 0 < 10 ^ k
 ten-pow k = one-le-pow k 10 (omega arith)

@@ -1,8 +1,8 @@
 -- `digit` meets its contract: each test is the definition's. Assumes nothing.
 use borrow.Author.Needs.{needs}
 use borrow.Author.Tests.{lt-ltb, le-ltb}
-use Rattle.record_text.proofs.field.digit.Statement.{statement}
-use Rattle.record_text.proofs.field.digit.Tie as tie
+use Rattle.record_field.proofs.field.digit.Statement.{statement}
+use Rattle.record_field.proofs.field.digit.Tie as tie
 
 returns : tie.Need-returns
 returns c = rw (lt-ltb _ _ (c .if1 .taken))
