@@ -14,7 +14,7 @@ use Rattle.wedgelet.specs.Wedgelet.{candidate, wedgelet, holds, keep, ends, sta
 use Rattle.sides.specs.Sides.{vertEdge, horEdge, ltBy, brBy, lt, br, sideDepth}
 use Rattle.offset.specs.Offset.{offsetOk, levelOf}
 use Rattle.prediction.specs.Block.{sampleOf, predicted}
-use Rattle.sheet_blocks.specs.Neighbours.{leftSource, topSource, neighboursAt}
+use Rattle.sheet_neighbours.specs.Neighbours.{leftSource, topSource, neighboursAt}
 use Rattle.sheet_blocks.specs.Samples.{written}
 use Rattle.record_checks.specs.Meaning.{recordRefusal}
 use Rattle.sheet.specs.Place.{placedSamples, placedInTurn}

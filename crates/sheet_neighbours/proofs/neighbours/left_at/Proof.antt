@@ -3,11 +3,11 @@ use Prim.Native.Nat.{_+_, _-_}
 use mathlib.Core.Path.{_≡_}
 use native.Mathlib.Omega.{arith}
 use borrow.Author.Needs.{needs}
-use Rattle.sheet_blocks.specs.Neighbours.{readFrom, leftOwn}
+use Rattle.sheet_neighbours.specs.Neighbours.{readFrom, leftOwn}
 use Rattle.sheet_blocks.proofs.GridLaws.{place-in, rows-few}
-use Rattle.sheet_blocks.proofs.SourceLaws.{left-own, left-top, left-nowhere}
-use Rattle.sheet_blocks.proofs.neighbours.left_at.Statement.{statement}
-use Rattle.sheet_blocks.proofs.neighbours.left_at.Tie as tie
+use Rattle.sheet_neighbours.proofs.SourceLaws.{left-own, left-top, left-nowhere}
+use Rattle.sheet_neighbours.proofs.neighbours.left_at.Statement.{statement}
+use Rattle.sheet_neighbours.proofs.neighbours.left_at.Tie as tie
 
 sub-lesser : tie.Need-sub-lesser
 sub-lesser c = search needs

@@ -3,8 +3,8 @@ use Prim.Native.Nat.{_+_, _*_}
 use native.Mathlib.Omega.{arith}
 use borrow.Author.Needs.{needs}
 use borrow.Author.Tests.{le-leb, lt-leb}
-use Rattle.sheet_blocks.proofs.neighbours.above_count.Statement.{statement}
-use Rattle.sheet_blocks.proofs.neighbours.above_count.Tie as tie
+use Rattle.sheet_neighbours.proofs.neighbours.above_count.Statement.{statement}
+use Rattle.sheet_neighbours.proofs.neighbours.above_count.Tie as tie
 
 mul-if1 : tie.Need-mul-if1
 mul-if1 c = search needs

@@ -5,8 +5,8 @@ use mathlib.Core.Path.{_≡_}
 use lib.ListN.{getD}
 use Rattle.arith.specs.Square.{place}
 use Rattle.sides.specs.Sides.{leftAt, topAt}
 use Rattle.sheet_blocks.specs.Grid.{blockHolding}
-use Rattle.sheet_blocks.specs.Neighbours.{neighboursAt}
+use Rattle.sheet_neighbours.specs.Neighbours.{neighboursAt}
 
 -- Document 01's cases of the neighbours of the block at (x, y): L is the left run and T the top run.
 pub record NeighbourCases (n w x y : ℕ) (s : List ℕ) : Type 0 where

@@ -12,9 +12,9 @@ use lib.ListN.{getD}
 use Rattle.arith.specs.Square.{place}
 use Rattle.arith.proofs.ListLaws.{listOf-at}
 use Rattle.sides.specs.Sides.{leftAt, topAt}
-use Rattle.sheet_blocks.specs.Neighbours.{readFrom, aboveCount, leftSource, topSource, sourceAt, neighboursAt}
-use Rattle.sheet_blocks.specs.Laws.{NeighbourCases}
-use Rattle.sheet_blocks.proofs.SourceLaws.{above-some, left-own, left-top, left-nowhere, top-own, top-left, top-nowhere}
+use Rattle.sheet_neighbours.specs.Neighbours.{readFrom, aboveCount, leftSource, topSource, sourceAt, neighboursAt}
+use Rattle.sheet_neighbours.specs.Laws.{NeighbourCases}
+use Rattle.sheet_neighbours.proofs.SourceLaws.{above-some, left-own, left-top, left-nowhere, top-own, top-left, top-nowhere}
 
 module _ (n w x y : ℕ) (s : List ℕ) (some : 1 ≤ n) where
   neighbour-at : (i : ℕ) → i < 4 * n → getD (neighboursAt n w x y s) i 0 ≡ readFrom s (sourceAt n w x y i)

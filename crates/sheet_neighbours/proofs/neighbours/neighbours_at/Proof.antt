@@ -5,10 +5,10 @@ use native.Mathlib.Omega.{arith}
 use borrow.Author.Needs.{needs}
 use Rattle.arith.specs.Lists.{upto}
 use Rattle.arith.proofs.ListLaws.{upto-none, fill-by}
-use Rattle.sheet_blocks.specs.Neighbours.{readFrom, sourceAt, neighboursAt}
+use Rattle.sheet_neighbours.specs.Neighbours.{readFrom, sourceAt, neighboursAt}
 use Rattle.sheet_blocks.proofs.AnswerLaws.{filled-by}
-use Rattle.sheet_blocks.proofs.neighbours.neighbours_at.Statement.{statement}
-use Rattle.sheet_blocks.proofs.neighbours.neighbours_at.Tie as tie
+use Rattle.sheet_neighbours.proofs.neighbours.neighbours_at.Statement.{statement}
+use Rattle.sheet_neighbours.proofs.neighbours.neighbours_at.Tie as tie
 
 abbrev Inv-loop : tie.InvT-loop
 Inv-loop samples width n x y near₀ i₀ i-end near i =

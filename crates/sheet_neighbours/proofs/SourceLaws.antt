@@ -6,8 +6,8 @@ use native.Mathlib.Omega.{arith}
 use borrow.Author.Tests.{leb-true, lt-ltb, le-ltb}
 use lib.Dec.{leb}
 use Rattle.arith.specs.Square.{place}
 use Rattle.sheet_blocks.specs.Grid.{Inside}
-use Rattle.sheet_blocks.specs.Neighbours.{Source, sample, nowhere, run, leftCount, aboveCount, topCount, leftOwn, topOwn, leftSource, topSource}
+use Rattle.sheet_neighbours.specs.Neighbours.{Source, sample, nowhere, run, leftCount, aboveCount, topCount, leftOwn, topOwn, leftSource, topSource}
 
 -- a run with a sample present
 run-own : (count : ℕ) (own : ℕ → Source) (other : Source) (i : ℕ) → 0 < count → run count own other i ≡ own (min i (count - 1))

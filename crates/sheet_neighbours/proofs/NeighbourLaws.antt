@@ -12,10 +12,10 @@ use lib.Dec.{leb, ltb}
 use lib.ListN.{getD}
 use Rattle.arith.specs.Square.{place}
 use Rattle.arith.proofs.ListLaws.{listOf-at, listOf-ext}
 use Rattle.sheet_blocks.specs.Grid.{blocks, blockX, blockY, blockHolding}
-use Rattle.sheet_blocks.specs.Neighbours.{Source, sample, nowhere, readFrom, run, leftCount, topCount, leftOwn, topOwn, leftSource, topSource, sourceAt, neighboursAt, neighbours}
-use Rattle.sheet_blocks.specs.Laws.{SameBefore, SampleBefore}
+use Rattle.sheet_neighbours.specs.Neighbours.{Source, sample, nowhere, readFrom, run, leftCount, topCount, leftOwn, topOwn, leftSource, topSource, sourceAt, neighboursAt, neighbours}
+use Rattle.sheet_neighbours.specs.Laws.{SameBefore, SampleBefore}
 use Rattle.sheet_blocks.proofs.GridLaws.{per-pos, block-inside, place-in}
 
 -- a sample of a block before block k, in a sheet of w by h samples; what is read nowhere counts too
 abbrev pub Earlier : ℕ → ℕ → ℕ → ℕ → Source → Type 0

@@ -1,8 +1,8 @@
 -- `neighbour` meets its contract: the left run, then the top run.
 use borrow.Author.Needs.{needs}
 use borrow.Author.Tests.{lt-ltb, le-ltb}
-use Rattle.sheet_blocks.proofs.neighbours.neighbour.Statement.{statement}
-use Rattle.sheet_blocks.proofs.neighbours.neighbour.Tie as tie
+use Rattle.sheet_neighbours.proofs.neighbours.neighbour.Statement.{statement}
+use Rattle.sheet_neighbours.proofs.neighbours.neighbour.Tie as tie
 
 mul-if1 : tie.Need-mul-if1
 mul-if1 c = search needs

@@ -3,11 +3,11 @@ use Prim.Native.Nat.{_+_, _-_, _<_}
 use mathlib.Core.Path.{_≡_}
 use native.Mathlib.Omega.{arith}
 use borrow.Author.Needs.{needs}
-use Rattle.sheet_blocks.specs.Neighbours.{readFrom, topOwn}
+use Rattle.sheet_neighbours.specs.Neighbours.{readFrom, topOwn}
 use Rattle.sheet_blocks.proofs.GridLaws.{place-in}
-use Rattle.sheet_blocks.proofs.SourceLaws.{above-some, above-inside, top-own, top-left, top-nowhere}
-use Rattle.sheet_blocks.proofs.neighbours.top_at.Statement.{statement}
-use Rattle.sheet_blocks.proofs.neighbours.top_at.Tie as tie
+use Rattle.sheet_neighbours.proofs.SourceLaws.{above-some, above-inside, top-own, top-left, top-nowhere}
+use Rattle.sheet_neighbours.proofs.neighbours.top_at.Statement.{statement}
+use Rattle.sheet_neighbours.proofs.neighbours.top_at.Tie as tie
 
 above-count-requires : tie.Need-above-count-requires
 above-count-requires c κs = let d = c .before .before in (d .pre .1, omega (arith, d .pre .0 .across))
