@@ -17,11 +17,11 @@ use Rattle.sheet.specs.State.{stateOf, sidesOk}
 use Rattle.sheet_checks.proofs.SideLaws.{side-bounds}
 use Rattle.record_text.specs.declared.cursor.SizeFields.{SizeFields}
 use Rattle.record_text.specs.declared.cursor.RecordFields.{RecordFields}
-use Rattle.record_text.specs.Codec.{SizePrintable, RecordPrintable}
-use Rattle.record_text.specs.Parsed.{exactly}
+use Rattle.record_text.specs.Printable.{SizePrintable, RecordPrintable}
+use Rattle.record_field.specs.Parsed.{exactly}
 use Rattle.record_text.specs.Line.{sizeTitle, depthTitle, recordTitle, sizeLine, sizeText, valueLine, valueText, recordLine, recordText}
 use Rattle.record_text.specs.Lines.{read, noMeaning, texts, Each}
-use Rattle.record_text.proofs.ParsedLaws.{exactly-reads, exactly-wrote}
+use Rattle.record_field.proofs.ParsedLaws.{exactly-reads, exactly-wrote}
 use Rattle.record_text.proofs.LineLaws.{size-line, value-line, record-line}
 use Rattle.record_text.proofs.LinesLaws.{line-read, line-parts, lines-read, lines-parts, ended-parts, many-reads, many-wrote}
 use Rattle.record_file.specs.Text.{noRecord, sizeFieldsOf, fileText}

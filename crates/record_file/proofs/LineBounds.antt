@@ -8,7 +8,7 @@ use native.Mathlib.Omega.{arith}
 use lib.ListN.{length}
 use Rattle.arith.specs.Checks.{unless}
 use Rattle.record_text.specs.declared.cursor.SizeFields.{SizeFields}
-use Rattle.record_text.specs.Parsed.{Parsed, Parser, badForm, found, exactly}
+use Rattle.record_field.specs.Parsed.{Parsed, Parser, badForm, found, exactly}
 use Rattle.record_text.specs.Line.{sizeTitle, depthTitle, recordTitle, sizeLine, valueLine, recordLine}
 use Rattle.record_text.specs.Lines.{Lined, refusedAt, read, judged, line, linesThen, noMeaning, manyLines, ended}
 use Rattle.record_text.proofs.LinesLaws.{line-parts}

@@ -16,7 +16,8 @@ use Rattle.offset.specs.Offset.{offsetOk}
 use Rattle.choice.specs.Record.{Record}
 use Rattle.record_checks.specs.Meaning.{kindRefusal, offsetRefusal, recordRefusal}
 use Rattle.record_text.specs.declared.cursor.RecordFields.{RecordFields}
-use Rattle.record_text.specs.Codec.{NumberPrintable, RecordPrintable}
+use Rattle.record_field.specs.Codec.{NumberPrintable}
+use Rattle.record_text.specs.Printable.{RecordPrintable}
 use Rattle.record_text.specs.Lines.{Each}
 use Rattle.record_file.specs.Text.{meant}
 use Rattle.record_file.specs.Writing.{Small}

@@ -12,9 +12,9 @@ use Rattle.offset.specs.Offset.{offsetOk}
 use Rattle.sheet.specs.State.{stateOf, stateRefusal}
 use Rattle.record_checks.specs.Meaning.{recordRefusal}
 use Rattle.record_text.specs.declared.cursor.RecordFields.{RecordFields}
-use Rattle.record_text.specs.Numeral.{digitsOf, furtherDigits, numeral, signedNumeral}
-use Rattle.record_text.specs.Parsed.{exactly}
-use Rattle.record_text.specs.Field.{moreDigits, number, signed, numberText, signedText}
+use Rattle.record_field.specs.Numeral.{digitsOf, furtherDigits, numeral, signedNumeral}
+use Rattle.record_field.specs.Parsed.{exactly}
+use Rattle.record_field.specs.Field.{moreDigits, number, signed, numberText, signedText}
 use Rattle.record_text.specs.Line.{sizeTitle, depthTitle, recordTitle, sizeLine, sizeText, valueLine, valueText, recordLine, recordText}
 use Rattle.record_text.specs.Lines.{Lined, refusedAt, read, manyLines, texts}
 use Rattle.record_file.specs.Text.{fileText}

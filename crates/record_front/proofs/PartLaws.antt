@@ -5,7 +5,7 @@ use mathlib.Core.List.{List}
 use lib.ListN.{drop, replicate}
 use lib.Seq.{sets}
 use Rattle.record_text.specs.declared.cursor.SizeFields.{SizeFields}
-use Rattle.record_text.specs.Parsed.{Parsed, badForm, found, exactly}
+use Rattle.record_field.specs.Parsed.{Parsed, badForm, found, exactly}
 use Rattle.record_text.specs.Line.{recordTitle}
 use Rattle.record_text.specs.Lines.{Lined, refusedAt, read, line, linesThen, noMeaning}
 use Rattle.record_text.proofs.LinesLaws.{refused-read}

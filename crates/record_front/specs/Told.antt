@@ -5,9 +5,9 @@ use mathlib.Core.List.{List}
 use lib.ListN.{drop, replicate}
 use lib.Seq.{sets}
 use Rattle.record_text.specs.declared.cursor.SizeFields.{SizeFields}
-use Rattle.record_text.specs.Parsed.{exactly}
+use Rattle.record_field.specs.Parsed.{exactly}
 use Rattle.record_text.specs.Line.{recordTitle}
-use Rattle.record_text.specs.Told.{remaining}
+use Rattle.record_field.specs.Told.{remaining}
 use Rattle.record_text.specs.Lines.{Lined, refusedAt, read, line, linesThen, noMeaning}
 use Rattle.record_file.specs.Text.{sizeFieldsOf}
 use Rattle.record_front.specs.declared.front.Front.{Front}

@@ -1,14 +1,14 @@
 // The lines before the records.
 ghost use mathlib.Core.Path.{_≡_};
 ghost use Prim.Native.Nat.{_≤_};
-ghost use Rattle.record_text.specs.Told.{remaining};
+ghost use Rattle.record_field.specs.Told.{remaining};
 ghost use Rattle.record_file.specs.Reading.{tableLines, frontLines};
 ghost use Rattle.record_front.specs.Told.{titleLines, frontRefused, FrontBy, FrontIs};
 use crate::lines::SizeBack;
 use crate::lines::read_head;
 use crate::loops::LinesRead;
 use crate::loops::read_values;
-use record_text::Cursor;
+use record_field::Cursor;
 use record_text::SizeFields;
 use record_text::TextRead;
 use record_text::read_record_title;

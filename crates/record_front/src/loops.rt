@@ -3,12 +3,12 @@ ghost use mathlib.Core.Path.{_≡_};
 ghost use Prim.Native.Nat.{_+_, _<_, _≤_};
 ghost use lib.ListN.{length};
 ghost use lib.Seq.{sets};
-ghost use Rattle.record_text.specs.Told.{remaining};
+ghost use Rattle.record_field.specs.Told.{remaining};
 ghost use Rattle.record_file.specs.Reading.{valueLines};
 ghost use Rattle.record_front.specs.Told.{linesTold, only, PutIf};
 use crate::lines::ValueRead;
 use crate::lines::value_line;
-use record_text::Cursor;
+use record_field::Cursor;
 
 // The place after the last of several lines, or a refusal and its line.
 pub enum LinesRead {

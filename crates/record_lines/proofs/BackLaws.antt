@@ -6,7 +6,7 @@ use native.Mathlib.Omega.{arith}
 use borrow.Author.Tests.{le-leb, lt-leb}
 use lib.ListN.{length, drop, replicate}
 use lib.Seq.{sets}
-use Rattle.record_text.specs.declared.cursor.Cursor.{Cursor}
+use Rattle.record_field.specs.declared.cursor.Cursor.{Cursor}
 use Rattle.record_text.specs.declared.cursor.SizeFields.{SizeFields}
 use Rattle.record_text.specs.declared.cursor.RecordFields.{RecordFields}
 use Rattle.record_text.specs.Lines.{Lined, refusedAt, read, linesThen}

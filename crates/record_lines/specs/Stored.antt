@@ -4,7 +4,7 @@ use mathlib.Core.List.{List, map}
 use lib.IntN.{ℤ}
 use lib.Seq.{sets}
 use Rattle.record_text.specs.declared.cursor.RecordFields.{RecordFields}
-use Rattle.record_text.specs.Told.{remaining}
+use Rattle.record_field.specs.Told.{remaining}
 use Rattle.record_text.specs.Lines.{Lined, refusedAt, read}
 use Rattle.record_lines.specs.declared.rows.OneRead.{OneRead}
 use Rattle.record_lines.specs.declared.rows.OneRead.the-variants as oneRead

@@ -9,11 +9,11 @@ use lib.ListN.{length, getD, take, drop, set, replicate, length-replicate}
 use lib.Seq.{sets, sets-eq, take-at}
 use borrow.Author.Tests.{le-leb, lt-leb, lt-ltb, ltb-true}
 use Rattle.arith.proofs.Bools.{both-of}
-use Rattle.record_text.specs.declared.cursor.Cursor.{Cursor}
+use Rattle.record_field.specs.declared.cursor.Cursor.{Cursor}
 use Rattle.record_text.specs.declared.cursor.SizeFields.{SizeFields}
 use Rattle.record_text.specs.declared.cursor.RecordFields.{RecordFields}
-use Rattle.record_text.specs.Codec.{SizePrintable, RecordPrintable}
-use Rattle.record_text.proofs.ReadSteps.{at-place}
+use Rattle.record_text.specs.Printable.{SizePrintable, RecordPrintable}
+use Rattle.record_field.proofs.ReadSteps.{at-place}
 use Rattle.record_print.specs.Put.{Put, Written, printedIf, sizePrintable, recordPrintable}
 use Rattle.record_print.proofs.WriteSteps.{written-length}
 

@@ -10,7 +10,7 @@ use borrow.Author.Tests.{ltb-true, ltb-false, lt-ltb, le-ltb}
 use mir.Syntax.{w32}
 use mir.Val.{SFits}
 use Rattle.arith.proofs.Bools.{clash}
-use Rattle.record_text.specs.Numeral.{numeralEnd}
+use Rattle.record_field.specs.Numeral.{numeralEnd}
 
 -- a number below 0, its sign changed
 pub opposite : (z : ℤ) → ltZ z (pos 0) ≡ true → pos 0 -ℤ z ≡ pos (natAbs z)

@@ -12,9 +12,9 @@ use lib.Seq.{sets, length-sets}
 use lib.Signed.{ltZ}
 use borrow.Author.Tests.{ltb-true}
 use Rattle.arith.proofs.Bools.{clash}
-use Rattle.record_text.specs.Numeral.{digitsOf, signedNumeral}
-use Rattle.record_text.specs.Field.{numberText, signedText}
-use Rattle.record_text.proofs.NumeralLaws.{ten-pow, digit-lt}
+use Rattle.record_field.specs.Numeral.{digitsOf, signedNumeral}
+use Rattle.record_field.specs.Field.{numberText, signedText}
+use Rattle.record_field.proofs.NumeralLaws.{ten-pow, digit-lt}
 use Rattle.record_print.specs.Put.{Written}
 
 -- ---- one text after the other

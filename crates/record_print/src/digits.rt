@@ -3,8 +3,8 @@ ghost use mathlib.Core.Path.{_≡_};
 ghost use Prim.Native.Nat.{suc, _+_, _^_, _≤_, _<_};
 ghost use lib.IntN.{natAbs};
 ghost use lib.ListN.{length};
-ghost use Rattle.record_text.specs.Numeral.{furtherDigits, numeral, numeralEnd};
-ghost use Rattle.record_text.specs.Field.{numberText, signedText};
+ghost use Rattle.record_field.specs.Numeral.{furtherDigits, numeral, numeralEnd};
+ghost use Rattle.record_field.specs.Field.{numberText, signedText};
 ghost use Rattle.record_print.specs.Put.{Written};
 
 // How many digits the numeral of x has.

@@ -1,11 +1,11 @@
 // Writing texts, fields and lines at a place of lent bytes: all of a text where there is room, else nothing.
 ghost use mathlib.Core.Path.{_≡_};
-ghost use Rattle.record_text.specs.Field.{numberText, signedText};
+ghost use Rattle.record_field.specs.Field.{numberText, signedText};
 ghost use Rattle.record_text.specs.Line.{sizeTitle, depthTitle, recordTitle, valueText};
 ghost use Rattle.record_print.specs.Put.{Put, printedIf, numberPrintable, signedPrintable};
 use crate::digits::write_number;
 use crate::digits::write_signed;
-use record_text::Cursor;
+use record_field::Cursor;
 
 // Writes the bytes `text`, and answers the place after them.
 pub fn put_text(out: &mut [u8], from: Cursor, text: &[u8]) -> Cursor

@@ -4,14 +4,14 @@ ghost use mathlib.Core.Path.{_≡_};
 ghost use Prim.Native.Nat.{_≤_};
 ghost use lib.ListN.{length};
 ghost use Rattle.record_text.specs.Line.{sizeText, recordText};
-ghost use Rattle.record_text.specs.Codec.{SizePrintable, RecordPrintable};
+ghost use Rattle.record_text.specs.Printable.{SizePrintable, RecordPrintable};
 ghost use Rattle.record_print.specs.Put.{Put, Written, printedIf, sizePrintable, recordPrintable};
 use crate::digits::write_number;
 use crate::digits::write_signed;
 use crate::put::number_printable;
 use crate::put::put_text;
 use crate::put::signed_printable;
-use record_text::Cursor;
+use record_field::Cursor;
 use record_text::RecordFields;
 use record_text::SizeFields;
 

@@ -5,12 +5,13 @@ use mathlib.Core.List.{List}
 use native.Mathlib.Omega.{arith}
 use Rattle.record_text.specs.declared.cursor.SizeFields.{SizeFields}
 use Rattle.record_text.specs.declared.cursor.RecordFields.{RecordFields}
-use Rattle.record_text.specs.Parsed.{Parser}
-use Rattle.record_text.specs.Field.{number, signed, numberText, signedText}
+use Rattle.record_field.specs.Parsed.{Parser}
+use Rattle.record_field.specs.Field.{number, signed, numberText, signedText}
 use Rattle.record_text.specs.Line.{sizeOf, sizeLine, sizeText, valueLine, valueText, recordOf, recordLine, recordText}
-use Rattle.record_text.specs.Codec.{Codec, NumberPrintable, SignedPrintable, SizePrintable, RecordPrintable}
-use Rattle.record_text.proofs.ParsedLaws.{then-codec, mapped-codec}
-use Rattle.record_text.proofs.FieldLaws.{number-codec, signed-codec}
+use Rattle.record_field.specs.Codec.{Codec, NumberPrintable, SignedPrintable}
+use Rattle.record_text.specs.Printable.{SizePrintable, RecordPrintable}
+use Rattle.record_field.proofs.ParsedLaws.{then-codec, mapped-codec}
+use Rattle.record_field.proofs.FieldLaws.{number-codec, signed-codec}
 
 -- a field before a space, and the last of a line
 spaced : Codec (number 32) (numberText 32) NumberPrintable

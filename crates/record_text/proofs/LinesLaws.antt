@@ -6,8 +6,8 @@ use native.Mathlib.Omega.{arith}
 use native.Mathlib.Nat.{mul-suc}
 use lib.ListN.{length, length-append}
 use Rattle.arith.specs.Lists.{listOf}
-use Rattle.record_text.specs.Parsed.{Parsed, Parser, badForm, found}
-use Rattle.record_text.specs.Codec.{Codec}
+use Rattle.record_field.specs.Parsed.{Parsed, Parser, badForm, found}
+use Rattle.record_field.specs.Codec.{Codec}
 use Rattle.record_text.specs.Lines.{Lined, refusedAt, read, judged, line, linesThen, manyLines, ended, texts, Each}
 
 -- ---- a refusal is no value

@@ -2,20 +2,11 @@
 use mathlib.Core.Path.{_≡_, refl}
 use mathlib.Core.List.{[], _∷_}
 use lib.IntN.{pos, negsuc}
-use Rattle.record_text.specs.Numeral.{digitsOf, furtherDigits, numeral, signedNumeral}
-use Rattle.record_text.specs.Parsed.{badForm, found, exactly}
-use Rattle.record_text.specs.Field.{moreDigits, number, signed, numberText, signedText}
+use Rattle.record_field.specs.Numeral.{digitsOf, furtherDigits, numeral, signedNumeral}
+use Rattle.record_field.specs.Parsed.{badForm, found, exactly}
+use Rattle.record_field.specs.Field.{moreDigits, number, signed, numberText, signedText}
 use Rattle.record_text.specs.Line.{depthTitle, sizeLine, sizeText, valueLine, recordLine, recordText}
 use Rattle.record_text.specs.Lines.{refusedAt, read, manyLines, noMeaning}
-
-zero-numeral : numeral 0 ≡ 48 ∷ []
-unfolding numeral digitsOf furtherDigits
-zero-numeral = refl
-
--- `140`
-table-numeral : numeral 140 ≡ 49 ∷ 52 ∷ 48 ∷ []
-unfolding numeral digitsOf furtherDigits
-table-numeral = refl
 
 -- document 01's size line, `4 4 4 3`
 size-example : sizeText (record { n = 4; width = 4; height = 4; values = 3 }) ≡ 52 ∷ 32 ∷ 52 ∷ 32 ∷ 52 ∷ 32 ∷ 51 ∷ 10 ∷ []
@@ -32,30 +23,10 @@ record-example-read :
 unfolding recordLine number signed moreDigits
 record-example-read = refl
 
--- of another form: `01`, `-0`, `100000`, two spaces, a carriage return, no line end
-leading-zero : number 10 (48 ∷ 49 ∷ 10 ∷ []) ≡ badForm
-unfolding number moreDigits
-leading-zero = refl
-
-minus-zero : signed 10 (45 ∷ 48 ∷ 10 ∷ []) ≡ badForm
-unfolding signed number moreDigits
-minus-zero = refl
-
-six-digits : number 10 (49 ∷ 48 ∷ 48 ∷ 48 ∷ 48 ∷ 48 ∷ 10 ∷ []) ≡ badForm
-unfolding number moreDigits
-six-digits = refl
-
+-- of another form: two spaces, a title without its line end
 two-spaces : sizeLine (52 ∷ 32 ∷ 32 ∷ 52 ∷ 32 ∷ 52 ∷ 32 ∷ 51 ∷ 10 ∷ []) ≡ badForm
 unfolding sizeLine number moreDigits
 two-spaces = refl
-
-carriage-return : number 10 (52 ∷ 13 ∷ 10 ∷ []) ≡ badForm
-unfolding number moreDigits
-carriage-return = refl
-
-no-line-end : number 10 (52 ∷ []) ≡ badForm
-unfolding number moreDigits
-no-line-end = refl
 
 title-no-line-end : exactly depthTitle (100 ∷ 101 ∷ 112 ∷ 116 ∷ 104 ∷ []) ≡ badForm
 unfolding exactly depthTitle

@@ -1,9 +1,6 @@
--- The definitions that the contracts of `record_text` cite.
-pub mod Numeral
-pub mod Parsed
-pub mod Field
+-- The definitions that the contracts of `record_text` cite beside those of `record_field`.
 pub mod Line
-pub mod Codec
+pub mod Printable
 pub mod Told
 pub mod Lines
 pub mod Examples

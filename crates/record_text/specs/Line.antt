@@ -4,8 +4,8 @@ use mathlib.Core.List.{List, [], _∷_, _++_}
 use lib.IntN.{ℤ}
 use Rattle.record_text.specs.declared.cursor.SizeFields.{SizeFields}
 use Rattle.record_text.specs.declared.cursor.RecordFields.{RecordFields}
-use Rattle.record_text.specs.Parsed.{Parser, _then_, mapped}
-use Rattle.record_text.specs.Field.{number, signed, numberText, signedText}
+use Rattle.record_field.specs.Parsed.{Parser, _then_, mapped}
+use Rattle.record_field.specs.Field.{number, signed, numberText, signedText}
 
 -- the line `size width height values`
 unfoldable pub sizeTitle : List ℕ

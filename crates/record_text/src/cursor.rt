@@ -1,9 +1,4 @@
-// The values that lines carry, and a place in the bytes of a file.
-
-// A place in a slice: it stands for the bytes from `at` on, for none past the end.
-pub struct Cursor {
-    pub at: usize,
-}
+// The values that lines carry.
 
 // The numbers of the line under `size width height values`.
 pub struct SizeFields {

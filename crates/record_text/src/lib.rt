@@ -1,16 +1,9 @@
-// The text of the record file (document 01: house file): numerals, fields and lines, and reading them.
+// The lines of the record file (document 01: house file), and reading them.
 mod cursor;
-mod field;
 mod line;
-mod sign;
 
-pub use cursor::Cursor;
 pub use cursor::RecordFields;
 pub use cursor::SizeFields;
-pub use field::NumberRead;
-pub use field::SignedRead;
-pub use field::read_number;
-pub use field::read_signed;
 pub use line::RecordRead;
 pub use line::SizeRead;
 pub use line::TextRead;

@@ -1,15 +1,16 @@
 // Reading one line of the record file.
 ghost use mathlib.Core.Path.{_≡_};
-ghost use Rattle.record_text.specs.Parsed.{exactly};
+ghost use Rattle.record_field.specs.Parsed.{exactly};
 ghost use Rattle.record_text.specs.Line.{sizeTitle, depthTitle, recordTitle, sizeLine, valueLine, recordLine};
-ghost use Rattle.record_text.specs.Told.{remaining, numberTold, textTold, sizeTold, recordTold};
-use crate::cursor::Cursor;
+ghost use Rattle.record_field.specs.Told.{remaining, numberTold};
+ghost use Rattle.record_text.specs.Told.{textTold, sizeTold, recordTold};
 use crate::cursor::RecordFields;
 use crate::cursor::SizeFields;
-use crate::field::NumberRead;
-use crate::field::SignedRead;
-use crate::field::read_number;
-use crate::field::read_signed;
+use record_field::Cursor;
+use record_field::NumberRead;
+use record_field::SignedRead;
+use record_field::read_number;
+use record_field::read_signed;
 
 // The place after a given text, or other text.
 pub enum TextRead {

@@ -18,7 +18,8 @@ use Rattle.choice_checks.proofs.AcceptLaws as accept
 use Rattle.choice_checks.proofs.AcceptLaws.{words-at, accepted}
 use Rattle.choice.proofs.LeastLaws.{chosen-least}
 use Rattle.sheet_blocks.specs.Samples.{cut}
-use Rattle.sheet_blocks.proofs.AnswerLaws.{length-neighbours, length-cut}
+use Rattle.sheet_neighbours.proofs.AnswerLaws.{length-neighbours}
+use Rattle.sheet_blocks.proofs.AnswerLaws.{length-cut}
 use Rattle.record_checks.proofs.MeaningLaws.{kind-zero, kind-one}
 use Rattle.sheet.specs.State.{nextX, nextY, Open, Lengths}
 use Rattle.record_checks.specs.Meaning.{kindRefusal, offsetRefusal, recordRefusal}

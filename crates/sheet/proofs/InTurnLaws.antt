@@ -11,7 +11,7 @@ use Rattle.choice.specs.Record.{Record}
 use Rattle.sheet.specs.State.{after, area, Open}
 use Rattle.sheet.specs.Place.{Material, placeRefusal, placeAnswer, placeAfter, placedInTurn}
 use Rattle.sheet.specs.Compose.{missing}
-use Rattle.sheet_blocks.specs.Laws.{SameBefore}
+use Rattle.sheet_neighbours.specs.Laws.{SameBefore}
 use Rattle.sheet.specs.declared.Sheet.{Sheet}
 use Rattle.sheet.proofs.PlaceLaws.{length-placed, place-accepted}
 use Rattle.sheet.proofs.OtherLaws.{placed-same, holding-inside}

@@ -15,10 +15,10 @@ use Rattle.sheet_blocks.specs.Grid.{sideOk, blockX, blockY, blockHolding}
 use Rattle.sheet_blocks.specs.Samples.{covers, written}
 use Rattle.sheet.specs.State.{area, blocksOf, nextX, nextY, Open}
 use Rattle.sheet.specs.Place.{Material, nextTexture, placeCase, placedSamples}
-use Rattle.sheet_blocks.specs.Laws.{SameBefore}
+use Rattle.sheet_neighbours.specs.Laws.{SameBefore}
 use Rattle.sheet.specs.declared.Sheet.{Sheet}
 use Rattle.sheet_checks.proofs.SideLaws.{multiple}
-use Rattle.sheet_blocks.proofs.NeighbourLaws.{neighbours-same}
+use Rattle.sheet_neighbours.proofs.NeighbourLaws.{neighbours-same}
 use Rattle.sheet_blocks.proofs.SampleLaws.{covered, covers-all, written-covered, written-others}
 
 -- a sample that block k covers is held by block k

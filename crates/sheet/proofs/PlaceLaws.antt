@@ -11,7 +11,7 @@ use Rattle.arith.specs.Checks.{refused, given}
 use Rattle.arith.proofs.CheckLaws.{answer-refused, answer-given, lent-refused, lent-given}
 use Rattle.prediction.specs.Block.{predicted}
 use Rattle.choice.specs.Record.{Record, patternBy}
-use Rattle.sheet_blocks.specs.Neighbours.{neighbours}
+use Rattle.sheet_neighbours.specs.Neighbours.{neighbours}
 use Rattle.sheet_blocks.specs.Samples.{written}
 use Rattle.sheet_blocks.proofs.SampleLaws.{length-written}
 use Rattle.record_checks.specs.Meaning.{recordRefusal}

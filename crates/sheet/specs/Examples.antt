@@ -16,7 +16,7 @@ use Rattle.prediction.specs.Block.{sampleOf, predicted}
 use Rattle.side_cost.specs.Cost.{sideCost}
 use Rattle.choice.specs.Record.{Record}
 use Rattle.choice.specs.Search.{bestCost, bestPattern, chosen}
-use Rattle.sheet_blocks.specs.Neighbours.{leftSource, topSource, neighboursAt}
+use Rattle.sheet_neighbours.specs.Neighbours.{leftSource, topSource, neighboursAt}
 use Rattle.sheet_blocks.specs.Samples.{written, cut}
 use Rattle.sheet_checks.specs.Checks.{lengthsOkBy, openRefusalBy}
 use Rattle.sheet.specs.State.{stateOf}

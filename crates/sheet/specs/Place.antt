@@ -12,7 +12,7 @@ use Rattle.pattern.specs.Size.{wordOk}
 use Rattle.offset.specs.Offset.{offsetOk}
 use Rattle.choice_checks.specs.Case.{Case, caseOf}
 use Rattle.choice.specs.Record.{Record, patternBy, predictionOf}
-use Rattle.sheet_blocks.specs.Neighbours.{neighbours}
+use Rattle.sheet_neighbours.specs.Neighbours.{neighbours}
 use Rattle.sheet_blocks.specs.Samples.{written, cut}
 use Rattle.sheet.specs.State.{after, area, nextX, nextY, lengthsOk, openRefusal}
 use Rattle.record_checks.specs.Meaning.{recordRefusal}

@@ -4,7 +4,7 @@ ghost use Prim.Native.Nat.{_*_};
 ghost use lib.ListN.{length, take};
 ghost use Rattle.pattern.specs.Contour.{contourOf};
 ghost use Rattle.prediction.specs.Block.{predicted};
-ghost use Rattle.sheet_blocks.specs.Neighbours.{neighbours};
+ghost use Rattle.sheet_neighbours.specs.Neighbours.{neighbours};
 ghost use Rattle.sheet_blocks.specs.Samples.{written, cut};
 ghost use Rattle.record_checks.specs.Meaning.{recordOf};
 ghost use Rattle.sheet.specs.State.{after, area, nextX, nextY, Open};
@@ -14,8 +14,8 @@ use crate::Placed;
 use crate::Sheet;
 use pattern::Contoured;
 use record_checks::record_refusal;
-use sheet_blocks::NEIGHBOURS;
 use sheet_blocks::SAMPLES;
+use sheet_neighbours::NEIGHBOURS;
 
 // A block of zeros.
 pub(crate) fn blank() -> [u8; SAMPLES]
@@ -30,7 +30,7 @@ impl Sheet {
         requires { ⌜ (Open self) × (length (now samples) ≡ area self) ⌝ }
         ensures { λ r. ⌜ take (4 * self .n) r ≡ neighbours (self .n) (self .width) (self .placed) (now (samples .entry)) ⌝ }
     {
-        sheet_blocks::neighbours_of(samples, self.n, self.width, self.placed)
+        sheet_neighbours::neighbours_of(samples, self.n, self.width, self.placed)
     }
 
     // The next block's part of a sheet's samples: n * n samples, row by row, and more past them.

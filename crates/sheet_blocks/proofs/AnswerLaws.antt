@@ -10,9 +10,8 @@ use Rattle.arith.specs.Lists.{listOf, upto}
 use Rattle.arith.proofs.ListLaws.{length-listOf, listOf-at, length-upto, upto-at, upto-ext}
 use Rattle.pattern.proofs.SizeLaws.{square-64}
 use Rattle.sheet_blocks.specs.Grid.{blockX, blockY, liesIn}
-use Rattle.sheet_blocks.specs.Neighbours.{neighbours, neighboursAt}
 use Rattle.sheet_blocks.specs.Samples.{written, cut}
-use Rattle.sheet_blocks.specs.Answer.{filled, neighboursAnswer, cutAnswer, putAfter}
+use Rattle.sheet_blocks.specs.Answer.{filled, cutAnswer, putAfter}
 use Rattle.sheet_blocks.proofs.GridLaws.{lies}
 use Rattle.sheet_blocks.proofs.SampleLaws.{written-part}
 
@@ -32,11 +31,7 @@ take-filled m k l e h =
     let j : i < k = omega arith in
     getD-take k (filled m k l) i 0 j ∙ upto-at m k (λ i. getD l i 0) 0 0 i h j)
 
--- ---- the lengths of a block's samples and neighbours
-
-pub length-neighbours : (n w k : ℕ) (s : List ℕ) → length (neighbours n w k s) ≡ 4 * n
-unfolding neighboursAt
-length-neighbours n w k s = length-listOf _ (4 * n)
+-- ---- the length of a block's samples
 
 pub length-cut : (n w x y : ℕ) (s : List ℕ) → length (cut n w x y s) ≡ n * n
 unfolding cut
@@ -45,12 +40,6 @@ length-cut n w x y s = length-listOf _ (n * n)
 -- ---- the calls
 
 module _ (n w k : ℕ) (s : List ℕ) (inside : liesIn n w k (length s) ≡ true) where
-  -- the neighbours come first
-  pub neighbours-first : take (4 * n) (neighboursAnswer n w k s) ≡ neighbours n w k s
-  unfolding neighboursAnswer
-  neighbours-first =
-      rw inside (take-filled 32 (4 * n) (neighbours n w k s) (length-neighbours n w k s) (omega (arith, lies n w k (length s) inside .high)))
-
   -- the block's samples come first
   pub cut-first : take (n * n) (cutAnswer n w k s) ≡ cut n w (blockX n w k) (blockY n w k) s
   unfolding cutAnswer

@@ -5,16 +5,11 @@ use mathlib.Core.List.{List}
 use lib.ListN.{length, getD, replicate}
 use Rattle.arith.specs.Lists.{upto}
 use Rattle.sheet_blocks.specs.Grid.{blockX, blockY, liesIn}
-use Rattle.sheet_blocks.specs.Neighbours.{neighbours}
 use Rattle.sheet_blocks.specs.Samples.{written, cut}
 
 -- m places: the first k hold those of the list, the others 0
 abbrev pub filled : ℕ → ℕ → List ℕ → List ℕ
 filled m k l = upto m k (λ i. getD l i 0) 0
-
--- `neighbours_of` gives the neighbours of block k in an array of 32; all 0 where the block does not lie inside the samples
-unfoldable pub neighboursAnswer : ℕ → ℕ → ℕ → List ℕ → List ℕ
-neighboursAnswer n w k s = cond (liesIn n w k (length s)) (filled 32 (4 * n) (neighbours n w k s)) (replicate 32 0)
 
 -- `cut` gives the samples of block k, row by row, in an array of 64; all 0 where the block does not lie inside the samples
 unfoldable pub cutAnswer : ℕ → ℕ → ℕ → List ℕ → List ℕ

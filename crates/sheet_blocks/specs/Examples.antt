@@ -6,7 +6,6 @@ use mathlib.Core.List.{List, [], _∷_, _++_, map}
 use lib.ListN.{replicate}
 use Rattle.arith.specs.Lists.{listOf}
 use Rattle.sheet_blocks.specs.Grid.{sideOk, blockX, blockY, blockHolding}
-use Rattle.sheet_blocks.specs.Neighbours.{leftSource, topSource, neighboursAt, neighbours}
 use Rattle.sheet_blocks.specs.Samples.{written, cut}
 
 -- 4, 128, 6, 0 and 132 for n = 4
@@ -24,19 +23,6 @@ firstSample k = (blockX 2 6 k, blockY 2 6 k)
 
 pub places : map firstSample (0 ∷ 1 ∷ 2 ∷ 3 ∷ 4 ∷ 5 ∷ []) ≡ (0, 0) ∷ (2, 0) ∷ (4, 0) ∷ (0, 2) ∷ (2, 2) ∷ (4, 2) ∷ []
 places = refl
-
--- the neighbours of each: none present; left only; left only; above only; both; both, at the right edge
-pub borders :
-    map (λ k. neighbours 2 6 k numbered) (0 ∷ 1 ∷ 2 ∷ 3 ∷ 4 ∷ 5 ∷ [])
-    ≡ (128 ∷ 128 ∷ 128 ∷ 128 ∷ 128 ∷ 128 ∷ 128 ∷ 128 ∷ [])
-    ∷ (1 ∷ 11 ∷ 11 ∷ 11 ∷ 1 ∷ 1 ∷ 1 ∷ 1 ∷ [])
-    ∷ (3 ∷ 13 ∷ 13 ∷ 13 ∷ 3 ∷ 3 ∷ 3 ∷ 3 ∷ [])
-    ∷ (10 ∷ 10 ∷ 10 ∷ 10 ∷ 10 ∷ 11 ∷ 12 ∷ 13 ∷ [])
-    ∷ (21 ∷ 31 ∷ 31 ∷ 31 ∷ 12 ∷ 13 ∷ 14 ∷ 15 ∷ [])
-    ∷ (23 ∷ 33 ∷ 33 ∷ 33 ∷ 14 ∷ 15 ∷ 15 ∷ 15 ∷ [])
-    ∷ []
-unfolding listOf leftSource topSource neighboursAt
-borders = refl
 
 -- block 4 read, and written to a sheet of zeros
 pub block-read : cut 2 6 2 2 numbered ≡ 22 ∷ 23 ∷ 32 ∷ 33 ∷ []

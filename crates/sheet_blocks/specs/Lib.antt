@@ -1,7 +1,5 @@
 -- Document 01, "Sheet": the blocks of a sheet.
 pub mod Grid
-pub mod Neighbours
 pub mod Samples
 pub mod Answer
-pub mod Laws
 pub mod Examples

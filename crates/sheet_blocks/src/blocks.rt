@@ -1,27 +1,13 @@
-// One block of a sheet by its number: its neighbours, its samples cut out, and its samples written. Where the block does not lie inside
+// One block of a sheet by its number: its samples cut out, and its samples written. Where the block does not lie inside
 // the lent samples nothing is read or written.
 ghost use mathlib.Core.Path.{_≡_};
-ghost use Rattle.sheet_blocks.specs.Answer.{neighboursAnswer, cutAnswer, putAfter};
+ghost use Rattle.sheet_blocks.specs.Answer.{cutAnswer, putAfter};
 use crate::grid::block_x;
 use crate::grid::block_y;
 use crate::grid::lies_inside;
-use crate::neighbours::NEIGHBOURS;
-use crate::neighbours::neighbours_at;
 use crate::samples::SAMPLES;
 use crate::samples::cut_at;
 use crate::samples::write_at;
-
-// The 4n neighbours of block k, then 0; all 0 where the block does not lie inside the samples.
-pub fn neighbours_of(samples: &[u8], n: u32, width: u32, k: u32) -> [u8; NEIGHBOURS]
-    ensures { λ r. ⌜ r ≡ neighboursAnswer n width k (now (samples .entry)) ⌝ }
-{
-    if !lies_inside(samples.len(), n, width, k) {
-        return [0u8; NEIGHBOURS];
-    }
-    let x = block_x(n, width, k);
-    let y = block_y(n, width, k);
-    neighbours_at(samples, width as usize, n as usize, x, y)
-}
 
 // The n * n samples of block k, row by row, then 0; all 0 where the block does not lie inside the samples.
 pub fn cut(samples: &[u8], n: u32, width: u32, k: u32) -> [u8; SAMPLES]

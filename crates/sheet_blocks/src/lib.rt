@@ -1,11 +1,11 @@
-// The blocks of a sheet (document 01, "Sheet"): where each lies, its samples and its neighbours.
+// The blocks of a sheet (document 01, "Sheet"): where each lies, and its samples.
 mod blocks;
 mod grid;
-mod neighbours;
 mod samples;
 
 pub use blocks::cut;
-pub use blocks::neighbours_of;
 pub use blocks::put;
-pub use neighbours::NEIGHBOURS;
+pub use grid::block_x;
+pub use grid::block_y;
+pub use grid::lies_inside;
 pub use samples::SAMPLES;

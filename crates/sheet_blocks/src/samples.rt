@@ -1,22 +1,13 @@
 // One block of a sheet's samples: written, and cut out.
 ghost use mathlib.Core.Path.{_≡_};
-ghost use Prim.Native.Nat.{_*_, _<_, _≤_};
-ghost use lib.ListN.{length, getD};
-ghost use Rattle.arith.specs.Square.{place};
+ghost use Prim.Native.Nat.{_*_, _≤_};
+ghost use lib.ListN.{length};
 ghost use Rattle.sheet_blocks.specs.Grid.{Inside};
 ghost use Rattle.sheet_blocks.specs.Samples.{written, cut};
 ghost use Rattle.sheet_blocks.specs.Answer.{filled};
 
 // The samples of the greatest block.
 pub const SAMPLES: usize = 64;
-
-// The sample in a column and a row of a sheet of the given width.
-pub(crate) fn read_at(samples: &[u8], width: usize, column: usize, row: usize) -> u8
-    requires { ⌜ place width column row < length (now samples) ⌝ }
-    ensures { λ r. ⌜ r ≡ getD (now (samples .entry)) (place width column row) 0 ⌝ }
-{
-    samples[row * width + column]
-}
 
 // Writes the first n * n samples of a block, row by row, at (x, y) of a sheet of the given width.
 pub(crate) fn write_at(samples: &mut [u8], width: usize, n: usize, x: usize, y: usize, block: &[u8])
@@ -35,7 +26,7 @@ pub(crate) fn cut_at(samples: &[u8], width: usize, n: usize, x: usize, y: usize)
 {
     let mut block = [0u8; SAMPLES];
     for k in 0..n * n {
-        block[k] = read_at(samples, width, x + k % n, y + k / n);
+        block[k] = samples[(y + k / n) * width + (x + k % n)];
     }
     block
 }

@@ -6,7 +6,7 @@ use mathlib.Core.List.{List}
 use borrow.Author.Tests.{leb-true, ltb-true, le-leb, lt-ltb}
 use lib.ListN.{length}
 use Rattle.arith.proofs.Bools.{both-of}
-use Rattle.record_text.specs.Numeral.{numeralEnd}
+use Rattle.record_field.specs.Numeral.{numeralEnd}
 use Rattle.record_print.specs.Put.{Written, printedIf}
 use Rattle.sheet_print.specs.Printed.{sheetText, refusalText}
 use Rattle.sheet_print.specs.Calls.{sheetPrintable, sheetPrinted, refusalPrintable, refusalPrinted}

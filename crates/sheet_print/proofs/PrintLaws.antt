@@ -8,12 +8,12 @@ use native.Mathlib.Omega.{arith}
 use borrow.Author.Tests.{lt-ltb}
 use lib.ListN.{length, getD, length-append}
 use Rattle.arith.specs.Lists.{listOf}
-use Rattle.record_text.specs.declared.cursor.Cursor.{Cursor}
-use Rattle.record_text.specs.Numeral.{numeralEnd}
-use Rattle.record_text.specs.Field.{numberText}
+use Rattle.record_field.specs.declared.cursor.Cursor.{Cursor}
+use Rattle.record_field.specs.Numeral.{numeralEnd}
+use Rattle.record_field.specs.Field.{numberText}
 use Rattle.record_text.specs.Line.{depthTitle}
 use Rattle.record_text.specs.Lines.{texts}
-use Rattle.record_text.proofs.LengthLaws.{number-short, number-le}
+use Rattle.record_field.proofs.LengthLaws.{number-short, number-le}
 use Rattle.record_text.proofs.LinesLaws.{texts-more, texts-length}
 use Rattle.record_print.specs.Put.{Put, Written, printedIf, numberPrintable}
 use Rattle.record_print.proofs.PutLaws.{put-written, printed-written}

@@ -1,8 +1,8 @@
 -- Worked examples of the definitions. Assumes nothing.
 use mathlib.Core.Path.{_≡_, refl}
 use mathlib.Core.List.{[], _∷_}
-use Rattle.record_text.specs.Numeral.{digitsOf, furtherDigits, numeral}
-use Rattle.record_text.specs.Field.{numberText}
+use Rattle.record_field.specs.Numeral.{digitsOf, furtherDigits, numeral}
+use Rattle.record_field.specs.Field.{numberText}
 use Rattle.sheet_print.specs.Printed.{refusalTitle, refusalText}
 use Rattle.sheet_print.specs.Calls.{refusalPrinted}
 

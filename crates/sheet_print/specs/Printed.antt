@@ -5,7 +5,7 @@ use mathlib.Core.List.{List, [], _∷_, _++_}
 use lib.Dec.{eqb}
 use lib.ListN.{getD}
 use Rattle.arith.specs.Lists.{listOf}
-use Rattle.record_text.specs.Field.{numberText}
+use Rattle.record_field.specs.Field.{numberText}
 use Rattle.record_text.specs.Line.{depthTitle}
 use Rattle.record_text.specs.Lines.{texts}
 

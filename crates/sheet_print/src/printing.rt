@@ -2,14 +2,14 @@
 ghost use mathlib.Core.Path.{_≡_};
 ghost use Prim.Native.Nat.{_+_, _*_, _<_, _≤_};
 ghost use lib.ListN.{length};
-ghost use Rattle.record_text.specs.Numeral.{numeralEnd};
+ghost use Rattle.record_field.specs.Numeral.{numeralEnd};
 ghost use Rattle.record_print.specs.Put.{Written};
 ghost use Rattle.sheet_print.specs.Printed.{pairText, byteAfter, sidesText, rowsText};
 ghost use Rattle.sheet_print.specs.Calls.{sheetPrintable, sheetPrinted, refusalPrintable, refusalPrinted};
+use record_field::Cursor;
 use record_print::put_depth_title;
 use record_print::put_number;
 use record_print::put_text;
-use record_text::Cursor;
 
 // A byte as a longer number.
 fn wide(b: u8) -> u32

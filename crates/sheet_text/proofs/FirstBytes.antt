@@ -6,12 +6,13 @@ use native.Mathlib.Omega.{arith}
 use lib.ListN.{length, take, drop, length-append, take-append-drop}
 use lib.Seq.{length-take-le}
 use Rattle.record_text.specs.declared.cursor.SizeFields.{SizeFields}
-use Rattle.record_text.specs.Parsed.{Parsed, badForm, found, andThen, exactly}
+use Rattle.record_field.specs.Parsed.{Parsed, badForm, found, andThen, exactly}
 use Rattle.record_text.specs.Line.{sizeTitle, depthTitle, recordTitle, sizeLine, valueText}
 use Rattle.record_text.specs.Lines.{Lined, refusedAt, read, noMeaning}
-use Rattle.record_text.proofs.LengthLaws.{number-le, size-le, record-le}
+use Rattle.record_field.proofs.LengthLaws.{number-le}
+use Rattle.record_text.proofs.LengthLaws.{size-le, record-le}
 use Rattle.record_text.proofs.LineLaws.{size-line, value-line, record-line}
-use Rattle.record_text.proofs.ParsedLaws.{exactly-codec, exactly-wrote}
+use Rattle.record_field.proofs.ParsedLaws.{exactly-codec, exactly-wrote}
 use Rattle.record_file.specs.Reading.{File, Aids, sizeMeaning, valueMeaning, lowAfter, recordMeaning, unchanged, headLines, tableLines, frontLines, blocksIn, restLines, fileLines, readFile}
 use Rattle.record_file.proofs.FileLaws.{size-small, front-parts, file-wrote}
 use Rattle.record_file.proofs.LineBounds.{blocks-few}

@@ -6,10 +6,10 @@ use native.Mathlib.Nat.{mul-suc}
 use native.Mathlib.Omega.{arith}
 use lib.ListN.{length, take, drop, length-append, take-append-drop}
 use lib.Seq.{take-append-le, take-append-seam}
-use Rattle.record_text.specs.Parsed.{Parsed, Parser, badForm, found}
-use Rattle.record_text.specs.Codec.{Codec}
+use Rattle.record_field.specs.Parsed.{Parsed, Parser, badForm, found}
+use Rattle.record_field.specs.Codec.{Codec}
 use Rattle.record_text.specs.Lines.{Lined, refusedAt, read, judged, line, linesThen, manyLines, ended}
-use Rattle.record_text.proofs.ParsedLaws.{bad-found}
+use Rattle.record_field.proofs.ParsedLaws.{bad-found}
 use Rattle.record_text.proofs.LinesLaws.{refused-read, line-parts, lines-parts}
 
 -- ---- a text and what follows it

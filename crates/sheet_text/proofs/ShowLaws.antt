@@ -13,7 +13,7 @@ use Rattle.sheet.specs.State.{area, blocksOf}
 use Rattle.sheet.specs.Place.{placedInTurn}
 use Rattle.sheet_checks.specs.Checks.{recordsLent}
 use Rattle.sheet.proofs.InTurnLaws.{length-in-turn}
-use Rattle.record_text.specs.Numeral.{numeralEnd}
+use Rattle.record_field.specs.Numeral.{numeralEnd}
 use Rattle.record_text.specs.Lines.{Lined, refusedAt, read}
 use Rattle.record_print.specs.Put.{Written}
 use Rattle.record_print.proofs.PutLaws.{written-whole}

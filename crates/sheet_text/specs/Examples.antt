@@ -14,14 +14,14 @@ use Rattle.wedgelet.specs.Wedgelet.{candidate, wedgelet, holds, keep, ends, sta
 use Rattle.sides.specs.Sides.{vertEdge, horEdge, ltBy, brBy, lt, br, sideDepth}
 use Rattle.offset.specs.Offset.{offsetOk, levelOf}
 use Rattle.prediction.specs.Block.{sampleOf, predicted}
-use Rattle.sheet_blocks.specs.Neighbours.{leftSource, topSource, neighboursAt}
+use Rattle.sheet_neighbours.specs.Neighbours.{leftSource, topSource, neighboursAt}
 use Rattle.sheet_blocks.specs.Samples.{written}
 use Rattle.record_checks.specs.Meaning.{recordRefusal}
 use Rattle.sheet.specs.Place.{placedSamples, placedInTurn}
 use Rattle.record_text.specs.declared.cursor.RecordFields.{RecordFields}
-use Rattle.record_text.specs.Numeral.{digitsOf, furtherDigits, numeral, signedNumeral}
-use Rattle.record_text.specs.Parsed.{exactly}
-use Rattle.record_text.specs.Field.{moreDigits, number, signed, numberText, signedText}
+use Rattle.record_field.specs.Numeral.{digitsOf, furtherDigits, numeral, signedNumeral}
+use Rattle.record_field.specs.Parsed.{exactly}
+use Rattle.record_field.specs.Field.{moreDigits, number, signed, numberText, signedText}
 use Rattle.record_text.specs.Line.{sizeTitle, depthTitle, recordTitle, sizeLine, sizeText, valueLine, valueText, recordLine, recordText}
 use Rattle.record_text.specs.Lines.{manyLines, texts}
 use Rattle.record_file.specs.Text.{fileText}

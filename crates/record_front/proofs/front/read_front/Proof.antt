@@ -2,7 +2,7 @@
 use borrow.Author.Needs.{needs}
 use mathlib.Core.Path.{_≡_, sym, _∙_, ap}
 use Rattle.record_text.specs.Lines.{read}
-use Rattle.record_text.specs.Told.{remaining}
+use Rattle.record_field.specs.Told.{remaining}
 use Rattle.record_file.specs.Reading.{headLines}
 use Rattle.record_file.proofs.FileLaws.{size-small}
 use Rattle.record_file.proofs.LineBounds.{head-sound}

@@ -1,7 +1,7 @@
 -- `read_table` meets its contract: the values, then the title.
 use borrow.Author.Needs.{needs}
 use mathlib.Core.Path.{sym, _∙_, ap}
-use Rattle.record_text.specs.Told.{remaining}
+use Rattle.record_field.specs.Told.{remaining}
 use Rattle.record_front.specs.Told.{linesTold}
 use Rattle.record_front.proofs.PartLaws.{table-refused, table-read}
 use Rattle.record_front.proofs.front.read_table.Statement.{statement}

@@ -1,7 +1,8 @@
 -- `title_line` meets its contract: the title, or a line of another form.
 use borrow.Author.Needs.{needs}
 use mathlib.Core.Path.{sym, _∙_, ap}
-use Rattle.record_text.specs.Told.{remaining, textTold}
+use Rattle.record_field.specs.Told.{remaining}
+use Rattle.record_text.specs.Told.{textTold}
 use Rattle.record_front.proofs.PartLaws.{title-read, title-bad}
 use Rattle.record_front.proofs.front.title_line.Statement.{statement}
 use Rattle.record_front.proofs.front.title_line.Tie as tie

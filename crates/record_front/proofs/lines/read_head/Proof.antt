@@ -3,7 +3,7 @@ use borrow.Author.Needs.{needs}
 use mathlib.Core.Path.{_≡_, refl, sym, _∙_, ap}
 use Prim.Native.Nat.{ℕ}
 use lib.ListN.{drop}
-use Rattle.record_text.specs.Parsed.{found, exactly}
+use Rattle.record_field.specs.Parsed.{found, exactly}
 use Rattle.record_text.specs.Line.{sizeTitle, sizeLine}
 use Rattle.record_text.specs.Told.{textTold, sizeTold}
 use Rattle.record_text.specs.Lines.{refusedAt, noMeaning}

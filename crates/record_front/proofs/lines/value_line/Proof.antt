@@ -2,9 +2,9 @@
 use borrow.Author.Needs.{needs}
 use mathlib.Core.Path.{_≡_, sym, _∙_, ap}
 use lib.ListN.{drop}
-use Rattle.record_text.specs.Parsed.{found}
+use Rattle.record_field.specs.Parsed.{found}
 use Rattle.record_text.specs.Line.{valueLine}
-use Rattle.record_text.specs.Told.{numberTold}
+use Rattle.record_field.specs.Told.{numberTold}
 use Rattle.record_text.specs.Lines.{read}
 use Rattle.record_text.proofs.LinesLaws.{line-bad}
 use Rattle.record_file.specs.Reading.{valueMeaning}

@@ -8,7 +8,7 @@ use lib.ListN.{length, length-set, set}
 use lib.Seq.{sets}
 use Rattle.record_text.specs.Line.{valueLine}
 use Rattle.record_text.specs.Lines.{line, read}
-use Rattle.record_text.specs.Told.{remaining}
+use Rattle.record_field.specs.Told.{remaining}
 use Rattle.record_file.specs.Reading.{valueMeaning, lowAfter, valueLines}
 use Rattle.record_front.specs.Told.{valueTold}
 use Rattle.record_front.proofs.ReadLaws.{Going, going-start, going-more, going-refused, going-end, loop-refused, loop-read, value-byte, stored-value}

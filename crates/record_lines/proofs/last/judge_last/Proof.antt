@@ -5,7 +5,7 @@ use mathlib.Core.Path.{_≡_, sym, _∙_, ap}
 use mathlib.Core.List.{List}
 use Rattle.record_text.specs.declared.cursor.RecordFields.{RecordFields}
 use Rattle.record_text.specs.Lines.{Lined, read}
-use Rattle.record_text.specs.Told.{remaining}
+use Rattle.record_field.specs.Told.{remaining}
 use Rattle.record_front.specs.Told.{linesTold, only}
 use Rattle.record_lines.specs.Back.{rowLines}
 use Rattle.record_lines.proofs.PartLaws.{last-refused, last-more, last-none}

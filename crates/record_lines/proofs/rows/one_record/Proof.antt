@@ -5,7 +5,7 @@ use Prim.Native.Nat.{ℕ}
 use lib.ListN.{drop}
 use Rattle.record_checks.specs.Meaning.{recordRefusal}
 use Rattle.record_text.specs.declared.cursor.RecordFields.{RecordFields}
-use Rattle.record_text.specs.Parsed.{found}
+use Rattle.record_field.specs.Parsed.{found}
 use Rattle.record_text.specs.Line.{recordLine}
 use Rattle.record_text.specs.Told.{recordTold}
 use Rattle.record_text.specs.Lines.{refusedAt, read}

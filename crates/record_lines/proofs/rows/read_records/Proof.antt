@@ -5,7 +5,7 @@ use Prim.Native.Nat.{_-_, _≤_}
 use native.Mathlib.Omega.{arith}
 use lib.ListN.{length, drop, length-set}
 use Rattle.record_text.specs.Line.{recordLine}
-use Rattle.record_text.specs.Told.{remaining}
+use Rattle.record_field.specs.Told.{remaining}
 use Rattle.record_file.specs.Reading.{recordMeaningBy, unchanged}
 use Rattle.record_front.proofs.ReadLaws.{Going, going-start, going-more, going-refused, going-end, loop-refused, loop-read}
 use Rattle.record_lines.specs.Stored.{Slices, oneTold, putRecords}

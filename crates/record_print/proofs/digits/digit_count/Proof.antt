@@ -3,8 +3,8 @@ use Prim.Native.Nat.{suc}
 use mathlib.Core.Path.{sym, ap}
 use native.Mathlib.Omega.{arith}
 use borrow.Author.Tests.{le-ltb}
-use Rattle.record_text.specs.Numeral.{furtherDigits}
-use Rattle.record_text.proofs.NumeralLaws.{further-is, further-none}
+use Rattle.record_field.specs.Numeral.{furtherDigits}
+use Rattle.record_field.proofs.NumeralLaws.{further-is, further-none}
 use Rattle.record_print.proofs.digits.digit_count.Statement.{statement}
 use Rattle.record_print.proofs.digits.digit_count.Tie as tie
 

@@ -4,7 +4,7 @@ use mathlib.Core.Bool.{true, false}
 use native.Mathlib.Omega.{arith}
 use lib.IntN.{ℤ, pos}
 use lib.Signed.{ltZ}
-use Rattle.record_text.proofs.SignLaws.{word-back}
+use Rattle.record_field.proofs.SignLaws.{word-back}
 use Rattle.record_print.proofs.SignLaws.{opposite, opposite-fits, not-below}
 use Rattle.record_print.proofs.digits.magnitude.Statement.{statement}
 use Rattle.record_print.proofs.digits.magnitude.Tie as tie

@@ -4,8 +4,8 @@ use mathlib.Core.List.{[], _∷_}
 use native.Mathlib.Omega.{arith}
 use borrow.Author.Needs.{needs}
 use lib.ListN.{length}
-use Rattle.record_text.specs.Numeral.{numeral}
-use Rattle.record_text.specs.Field.{numberText}
+use Rattle.record_field.specs.Numeral.{numeral}
+use Rattle.record_field.specs.Field.{numberText}
 use Rattle.record_print.proofs.WriteSteps.{written-byte, written-then, written-length, room-first, room-next}
 use Rattle.record_print.proofs.digits.write_number.Statement.{statement}
 use Rattle.record_print.proofs.digits.write_number.Tie as tie

@@ -6,8 +6,8 @@ use native.Mathlib.Omega.{arith}
 use borrow.Author.Needs.{needs}
 use lib.ListN.{length, length-set}
 use lib.Seq.{sets}
-use Rattle.record_text.specs.Numeral.{numeral, digitsOf, furtherDigits}
-use Rattle.record_text.proofs.NumeralLaws.{further-le, further-high, ten-pow, length-digits, length-numeral}
+use Rattle.record_field.specs.Numeral.{numeral, digitsOf, furtherDigits}
+use Rattle.record_field.proofs.NumeralLaws.{further-le, further-high, ten-pow, length-digits, length-numeral}
 use Rattle.record_print.proofs.WriteSteps.{digit-written, digit-small, rest-small}
 use Rattle.record_print.proofs.digits.write_numeral.Statement.{statement}
 use Rattle.record_print.proofs.digits.write_numeral.Tie as tie

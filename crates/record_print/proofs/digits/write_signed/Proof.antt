@@ -8,9 +8,9 @@ use borrow.Author.Needs.{needs}
 use lib.IntN.{ℤ, pos, natAbs}
 use lib.ListN.{length, length-set}
 use lib.Signed.{ltZ}
-use Rattle.record_text.specs.Field.{numberText, signedText}
-use Rattle.record_text.proofs.LengthLaws.{signed-some}
-use Rattle.record_text.proofs.SignLaws.{word-back}
+use Rattle.record_field.specs.Field.{numberText, signedText}
+use Rattle.record_field.proofs.LengthLaws.{signed-some}
+use Rattle.record_field.proofs.SignLaws.{word-back}
 use Rattle.record_print.proofs.WriteSteps.{written-byte, written-then, written-as, negative-text, positive-text}
 use Rattle.record_print.proofs.digits.write_signed.Statement.{statement}
 use Rattle.record_print.proofs.digits.write_signed.Tie as tie

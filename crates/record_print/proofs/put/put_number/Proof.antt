@@ -6,8 +6,8 @@ use lib.ListN.{length}
 use borrow.Author.Needs.{needs}
 use borrow.Author.Tests.{not-true, not-false, ltb-true}
 use mathlib.Core.Path.{_≡_, sym, _∙_}
-use Rattle.record_text.specs.Field.{numberText}
-use Rattle.record_text.proofs.LengthLaws.{number-le}
+use Rattle.record_field.specs.Field.{numberText}
+use Rattle.record_field.proofs.LengthLaws.{number-le}
 use Rattle.record_print.specs.Put.{numberPrintable}
 use Rattle.record_print.proofs.PutLaws.{put-unprintable, made-inside, made-length, put-made}
 use Rattle.record_print.proofs.put.put_number.Statement.{statement}

@@ -8,9 +8,9 @@ use borrow.Author.Tests.{not-true, not-false, ltb-true}
 use lib.ListN.{length, replicate}
 use mir.Syntax.{w32}
 use mir.Val.{toZ, ofZ}
-use Rattle.record_text.specs.Field.{signedText}
-use Rattle.record_text.proofs.LengthLaws.{signed-le}
-use Rattle.record_text.proofs.SignLaws.{word-back}
+use Rattle.record_field.specs.Field.{signedText}
+use Rattle.record_field.proofs.LengthLaws.{signed-le}
+use Rattle.record_field.proofs.SignLaws.{word-back}
 use Rattle.record_print.specs.Put.{signedPrintable, Written}
 use Rattle.record_print.proofs.WriteSteps.{written-as}
 use Rattle.record_print.proofs.PutLaws.{put-unprintable, made-inside, made-length, put-made}

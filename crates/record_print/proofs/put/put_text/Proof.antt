@@ -7,7 +7,7 @@ use native.Mathlib.Omega.{arith}
 use borrow.Author.Needs.{needs}
 use lib.ListN.{length, drop, length-set}
 use lib.Seq.{sets}
-use Rattle.record_text.proofs.ReadSteps.{past}
+use Rattle.record_field.proofs.ReadSteps.{past}
 use Rattle.record_print.proofs.PutLaws.{put-no-room, put-room, copy-step}
 use Rattle.record_print.proofs.put.put_text.Statement.{statement}
 use Rattle.record_print.proofs.put.put_text.Tie as tie

@@ -2,7 +2,7 @@
 use mathlib.Core.Path.{sym, _∙_, ap}
 use lib.IntN.{ℤ, pos, negsuc}
 use lib.Signed.{ltZ}
-use Rattle.record_text.proofs.SignLaws.{word-back}
+use Rattle.record_field.proofs.SignLaws.{word-back}
 use Rattle.record_print.proofs.SignLaws.{within-low, within-high}
 use Rattle.record_print.proofs.put.signed_printable.Statement.{statement}
 use Rattle.record_print.proofs.put.signed_printable.Tie as tie

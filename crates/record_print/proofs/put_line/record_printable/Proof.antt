@@ -1,7 +1,7 @@
 -- `record_printable` meets its contract, field by field. Assumes nothing.
 use mathlib.Core.Path.{ap, ap₂, _∙_}
 use mathlib.Core.Bool.{_&&_}
-use Rattle.record_text.proofs.SignLaws.{word-back}
+use Rattle.record_field.proofs.SignLaws.{word-back}
 use Rattle.record_print.specs.Put.{signedPrintable, recordPrintable}
 use Rattle.record_print.proofs.put_line.record_printable.Statement.{statement}
 use Rattle.record_print.proofs.put_line.record_printable.Tie as tie

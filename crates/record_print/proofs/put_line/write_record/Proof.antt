@@ -7,9 +7,9 @@ use borrow.Author.Needs.{needs}
 use lib.ListN.{length}
 use mir.Syntax.{w32}
 use mir.Val.{toZ, ofZ}
-use Rattle.record_text.specs.Field.{numberText, signedText}
+use Rattle.record_field.specs.Field.{numberText, signedText}
 use Rattle.record_text.specs.Line.{recordText}
-use Rattle.record_text.proofs.SignLaws.{word-back}
+use Rattle.record_field.proofs.SignLaws.{word-back}
 use Rattle.record_print.specs.Put.{Written}
 use Rattle.record_print.proofs.WriteSteps.{written-then, written-as, room-first, room-next}
 use Rattle.record_print.proofs.put_line.write_record.Statement.{statement}

@@ -4,7 +4,7 @@ use mathlib.Core.List.{_++_}
 use native.Mathlib.Omega.{arith}
 use borrow.Author.Needs.{needs}
 use lib.ListN.{length}
-use Rattle.record_text.specs.Field.{numberText}
+use Rattle.record_field.specs.Field.{numberText}
 use Rattle.record_text.specs.Line.{sizeText}
 use Rattle.record_print.proofs.WriteSteps.{written-then, room-first, room-next}
 use Rattle.record_print.proofs.put_line.write_size.Statement.{statement}

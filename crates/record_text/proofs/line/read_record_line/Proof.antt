@@ -4,11 +4,11 @@ use borrow.Author.Needs.{needs}
 use lib.ListN.{drop}
 use mir.Syntax.{w32}
 use mir.Val.{SFits}
-use Rattle.record_text.specs.Field.{number, signed}
-use Rattle.record_text.specs.Parsed.{found}
+use Rattle.record_field.specs.Field.{number, signed}
+use Rattle.record_field.specs.Parsed.{found}
 use Rattle.record_text.specs.Line.{recordLine}
-use Rattle.record_text.specs.Told.{numberTold, signedTold}
-use Rattle.record_text.proofs.SignLaws.{word-back}
+use Rattle.record_field.specs.Told.{numberTold, signedTold}
+use Rattle.record_field.proofs.SignLaws.{word-back}
 use Rattle.record_text.proofs.line.read_record_line.Statement.{statement}
 use Rattle.record_text.proofs.line.read_record_line.Tie as tie
 

@@ -2,10 +2,10 @@
 use mathlib.Core.Path.{_≡_, sym, _∙_, ap}
 use borrow.Author.Needs.{needs}
 use lib.ListN.{drop}
-use Rattle.record_text.specs.Field.{number}
-use Rattle.record_text.specs.Parsed.{found}
+use Rattle.record_field.specs.Field.{number}
+use Rattle.record_field.specs.Parsed.{found}
 use Rattle.record_text.specs.Line.{sizeLine}
-use Rattle.record_text.specs.Told.{numberTold}
+use Rattle.record_field.specs.Told.{numberTold}
 use Rattle.record_text.proofs.line.read_size_line.Statement.{statement}
 use Rattle.record_text.proofs.line.read_size_line.Tie as tie
 

@@ -4,8 +4,8 @@ use mathlib.Core.Path.{_≡_, sym, _∙_, refl}
 use native.Mathlib.Omega.{arith}
 use borrow.Author.Needs.{needs}
 use lib.ListN.{length, drop}
-use Rattle.record_text.specs.Parsed.{exactly}
-use Rattle.record_text.proofs.ReadSteps.{text-step, text-other, text-past, text-end}
+use Rattle.record_field.specs.Parsed.{exactly}
+use Rattle.record_text.proofs.TextSteps.{text-step, text-other, text-past, text-end}
 use Rattle.record_text.proofs.line.read_text.Statement.{statement}
 use Rattle.record_text.proofs.line.read_text.Tie as tie
 

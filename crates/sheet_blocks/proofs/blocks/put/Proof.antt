@@ -27,10 +27,10 @@ fits : (c : tie.Else1) → let a = c .before .before .before .args in Lies (a .n
 fits c = let a = c .before .before .before .args in lies (a .n) (a .width) (a .k) (length (a .samples .now)) (inside c)
 
 block-x-requires : tie.Need-block-x-requires
-block-x-requires c κs = let f = fits c in (omega (arith, f .low), f .wide)
+block-x-requires c κs = tt
 
 block-y-requires : tie.Need-block-y-requires
-block-y-requires c κs = let f = fits (c .before) in (omega (arith, f .low), f .high, f .wide)
+block-y-requires c κs = tt
 
 write-at-requires : tie.Need-write-at-requires
 write-at-requires c κs =

@@ -31,10 +31,7 @@ unfolding liesIn
 returns-3 c = rw (good (c .before .before), le-leb _ _ (c .before .if2 .left), lt-leb _ _ (c .if3 .taken))
 
 block-y-requires : tie.Need-block-y-requires
-block-y-requires c κs =
-    let e = c .before .before in
-    let b = size-bounds (e .before .before .args .n) (good e) in
-    (omega arith, b .1, c .before .if2 .left)
+block-y-requires c κs = tt
 
 add-result : tie.Need-add-result
 add-result c =

@@ -2,7 +2,7 @@
 use Prim.Native.Nat.{_+_, _-_, _*_, _/_, _%_, _≤_, _<_}
 use mathlib.Core.Path.{_≡_, refl, sym}
 use native.Mathlib.Omega.{arith}
-use lib.ListN.{getD}
+use lib.ListN.{length, getD}
 use Rattle.arith.specs.Lists.{upto}
 use Rattle.arith.specs.Square.{place}
 use Rattle.arith.proofs.ListLaws.{upto-none, fill-by}
@@ -21,40 +21,50 @@ abbrev μ-loop : tie.MeasureT-loop
 μ-loop samples width n x y block₀ k₀ k-end block k = n * n - k
 
 mul-k-end : tie.Need-mul-k-end Inv-loop μ-loop
-mul-k-end c = omega (arith, square-le {m = 8} (c .before .pre .1))
+mul-k-end c = omega (arith, square-le {m = 8} (c .pre .1))
 
 loop-holds : tie.Need-loop-holds Inv-loop μ-loop
 loop-holds c = (refl, omega arith, sym (upto-none 64 _ 0))
 
--- column and row of sample k in the block
+-- the place of sample k is inside the sheet
 inside :
     (c : tie.In-loop Inv-loop μ-loop)
-    → let n = c .before .before .before .args .n in let k = c .before .loop .k in (k % n < n) × (k / n < n)
-inside c =
-    let n = c .before .before .before .args .n in
+    → let a = c .before .before .args in
     let k = c .before .loop .k in
-    (column-lt n k (c .loop-test .taken), row-lt n k (c .loop-test .taken))
+    (k % a .n < a .n) × (k / a .n < a .n) × (place (a .width) (a .x + k % a .n) (a .y + k / a .n) < length (a .samples .now))
+inside c =
+    let n = c .before .before .args .n in
+    let k = c .before .loop .k in
+    let hc = column-lt n k (c .loop-test .taken) in
+    let hr = row-lt n k (c .loop-test .taken) in
+    (hc, hr, sample-in _ _ (c .before .before .pre .0) hc hr)
 
-rem-read-at : tie.Need-rem-read-at Inv-loop μ-loop
-rem-read-at c = omega (arith, c .before .before .before .pre .0 .some)
+div-block : tie.Need-div-block Inv-loop μ-loop
+div-block c = omega (arith, c .before .before .pre .0 .some)
 
-add-read-at : tie.Need-add-read-at Inv-loop μ-loop
-add-read-at c = omega (arith, inside c, c .before .before .before .pre .0 .across)
+add-block : tie.Need-add-block Inv-loop μ-loop
+add-block c = omega (arith, inside c .1, rows-few (c .before .before .pre .0))
 
-div-read-at : tie.Need-div-read-at Inv-loop μ-loop
-div-read-at c = omega (arith, c .before .before .before .pre .0 .some)
+mul-block : tie.Need-mul-block Inv-loop μ-loop
+mul-block c = omega (arith, inside c .2)
 
-add-read-at-2 : tie.Need-add-read-at-2 Inv-loop μ-loop
-add-read-at-2 c = omega (arith, inside c, rows-few (c .before .before .before .pre .0))
+rem-block : tie.Need-rem-block Inv-loop μ-loop
+rem-block c = omega (arith, c .before .before .pre .0 .some)
 
-read-at-requires : tie.Need-read-at-requires Inv-loop μ-loop
-read-at-requires c κs = sample-in _ _ (c .before .before .before .pre .0) (inside c .0) (inside c .1)
+add-block-2 : tie.Need-add-block-2 Inv-loop μ-loop
+add-block-2 c = omega (arith, inside c .2)
+
+add-block-3 : tie.Need-add-block-3 Inv-loop μ-loop
+add-block-3 c = omega (arith, inside c .2)
+
+shared-slice-read-block : tie.Need-shared-slice-read-block Inv-loop μ-loop
+shared-slice-read-block c = inside (c .before) .2
 
 array-write-block : tie.Need-array-write-block Inv-loop μ-loop
-array-write-block c = omega (arith, square-le {m = 8} (c .before .before .before .before .pre .1))
+array-write-block c = omega (arith, square-le {m = 8} (c .before .before .before .pre .1))
 
 add-k : tie.Need-add-k Inv-loop μ-loop
-add-k c = omega (arith, square-le {m = 8} (c .before .before .before .before .pre .1))
+add-k c = omega (arith, square-le {m = 8} (c .before .before .before .pre .1))
 
 loop-less : tie.Need-loop-less Inv-loop μ-loop
 loop-less c = omega arith
@@ -63,7 +73,7 @@ loop-again : tie.Need-loop-again Inv-loop μ-loop
 loop-again c = (
   refl,
   omega arith,
-  fill-by 64 _ _ 0 (c .before .before .loop .inv .2) (c .read-at .ensures) (omega (arith, square-le {m = 8} (c .before .before .before .before .pre .1))),
+  fill-by 64 _ _ 0 (c .before .before .loop .inv .2) refl (omega (arith, square-le {m = 8} (c .before .before .before .pre .1))),
 )
 
 returns : tie.Need-returns Inv-loop μ-loop
@@ -78,11 +88,13 @@ cut-at-spec =
     μ-loop
     mul-k-end
     loop-holds
-    rem-read-at
-    add-read-at
-    div-read-at
-    add-read-at-2
-    read-at-requires
+    div-block
+    add-block
+    mul-block
+    rem-block
+    add-block-2
+    add-block-3
+    shared-slice-read-block
     array-write-block
     add-k
     loop-less

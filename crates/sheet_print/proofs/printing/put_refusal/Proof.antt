@@ -6,7 +6,7 @@ use native.Mathlib.Omega.{arith}
 use borrow.Author.Needs.{needs}
 use borrow.Author.Tests.{not-true, not-false}
 use lib.ListN.{length}
-use Rattle.record_text.specs.Numeral.{numeralEnd}
+use Rattle.record_field.specs.Numeral.{numeralEnd}
 use Rattle.record_print.specs.Put.{Written}
 use Rattle.sheet_print.specs.Printed.{refusalTitle, pairText}
 use Rattle.sheet_print.specs.Calls.{refusalPrintable}

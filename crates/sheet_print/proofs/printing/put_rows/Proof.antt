@@ -5,7 +5,7 @@ use mathlib.Core.Path.{_≡_, refl, subst}
 use native.Mathlib.Omega.{arith}
 use lib.ListN.{length, getD}
 use Rattle.arith.specs.Lists.{listOf}
-use Rattle.record_text.specs.Field.{numberText}
+use Rattle.record_field.specs.Field.{numberText}
 use Rattle.record_text.specs.Lines.{texts}
 use Rattle.record_print.specs.Put.{Put, Written, printedIf, numberPrintable}
 use Rattle.record_print.proofs.LoopLaws.{writing-start, line-more}

@@ -2,7 +2,7 @@
 use borrow.Author.Needs.{needs}
 use mathlib.Core.Path.{_≡_, sym, _∙_, ap}
 use lib.ListN.{drop}
-use Rattle.record_text.specs.Parsed.{found, exactly}
+use Rattle.record_field.specs.Parsed.{found, exactly}
 use Rattle.record_text.specs.Line.{sizeTitle}
 use Rattle.record_text.specs.Told.{textTold, sizeTold}
 use Rattle.sheet_text.proofs.AidLaws.{size-no-title, size-no-line, size-found}

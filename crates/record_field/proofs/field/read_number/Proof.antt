@@ -1,0 +1,58 @@
+-- `read_number` meets its contract: the first digit decides how many may follow. Assumes nothing.
+use Prim.Native.Nat.{_+_}
+use mathlib.Core.Path.{_≡_, sym, _∙_, ap}
+use mathlib.Core.List.{_∷_}
+use borrow.Author.Needs.{needs}
+use lib.ListN.{drop, getD}
+use Rattle.record_field.specs.Field.{number}
+use Rattle.record_field.proofs.ReadSteps.{at-place, past, number-nil, number-none, number-digit, first-small}
+use Rattle.record_field.proofs.field.read_number.Statement.{statement}
+use Rattle.record_field.proofs.field.read_number.Tie as tie
+
+returns : tie.Need-returns
+returns c = sym (number-nil _ _ (past _ _ (c .if1 .taken)))
+
+-- the byte at the place, and the rest
+here :
+    (c : tie.After-shared-slice-known2)
+    → let a = c .before .before .before .args in
+    number (a .end) (drop (a .from .at) (a .bytes .now)) ≡ number (a .end) (getD (a .bytes .now) (a .from .at) 0 ∷ drop (a .from .at + 1) (a .bytes .now))
+here c = ap (number _) (at-place _ _ (c .before .if1 .left))
+
+shared-slice-read-digit : tie.Need-shared-slice-read-digit
+shared-slice-read-digit c = search needs
+
+digit-requires : tie.Need-digit-requires
+digit-requires c κs = tt
+
+returns-2 : tie.Need-returns-2
+returns-2 c = sym (here (c .before .before) ∙ number-none _ _ _ _ (c .before .digit .ensures) (c .if2 .taken))
+
+add-read-digits : tie.Need-add-read-digits
+add-read-digits c = search needs
+
+digit-room-requires : tie.Need-digit-room-requires
+digit-room-requires c κs = tt
+
+read-digits-requires : tie.Need-read-digits-requires
+read-digits-requires c κs = first-small _ _ (c .before .if2 .left) (c .digit-room .ensures)
+
+returns-3 : tie.Need-returns-3
+returns-3 c =
+    let r = c .before in
+    let d = r .before .before in
+    c .read-digits .ensures
+    ∙ sym (here (d .before) ∙ number-digit _ _ _ _ _ (d .digit .ensures) (r .before .if2 .left) (r .digit-room .ensures))
+
+pub read-number-spec : {M : Type 1} → statement M
+read-number-spec =
+    tie.close
+    (tie.spec
+    returns
+    shared-slice-read-digit
+    digit-requires
+    returns-2
+    add-read-digits
+    digit-room-requires
+    read-digits-requires
+    returns-3)

@@ -1,0 +1,58 @@
+-- `neighbours_at` meets its contract: after i neighbours the first i places are filled.
+use Prim.Native.Nat.{_-_, _*_, _≤_}
+use mathlib.Core.Path.{_≡_, refl, sym}
+use native.Mathlib.Omega.{arith}
+use borrow.Author.Needs.{needs}
+use Rattle.arith.specs.Lists.{upto}
+use Rattle.arith.proofs.ListLaws.{upto-none, fill-by}
+use Rattle.sheet_neighbours.specs.Neighbours.{readFrom, sourceAt, neighboursAt}
+use Rattle.sheet_blocks.proofs.AnswerLaws.{filled-by}
+use Rattle.sheet_neighbours.proofs.neighbours.neighbours_at.Statement.{statement}
+use Rattle.sheet_neighbours.proofs.neighbours.neighbours_at.Tie as tie
+
+abbrev Inv-loop : tie.InvT-loop
+Inv-loop samples width n x y near₀ i₀ i-end near i =
+    (i-end ≡ 4 * n) × (i ≤ 4 * n) × (near ≡ upto 32 i (λ j. readFrom samples (sourceAt n width x y j)) 0)
+
+abbrev μ-loop : tie.MeasureT-loop
+μ-loop samples width n x y near₀ i₀ i-end near i = 4 * n - i
+
+mul-i-end : tie.Need-mul-i-end Inv-loop μ-loop
+mul-i-end c = search needs
+
+loop-holds : tie.Need-loop-holds Inv-loop μ-loop
+loop-holds c = (refl, omega arith, sym (upto-none 32 _ 0))
+
+neighbour-requires : tie.Need-neighbour-requires Inv-loop μ-loop
+neighbour-requires c κs = c .before .before .before .pre
+
+array-write-near : tie.Need-array-write-near Inv-loop μ-loop
+array-write-near c = omega arith
+
+add-i : tie.Need-add-i Inv-loop μ-loop
+add-i c = omega arith
+
+loop-less : tie.Need-loop-less Inv-loop μ-loop
+loop-less c = omega arith
+
+loop-again : tie.Need-loop-again Inv-loop μ-loop
+loop-again c = (refl, omega arith, fill-by 32 _ _ 0 (c .before .before .loop .inv .2) (c .neighbour .ensures) (omega arith))
+
+returns : tie.Need-returns Inv-loop μ-loop
+unfolding neighboursAt
+returns c = filled-by 32 _ _ _ (c .before .loop .inv .2) (omega arith)
+
+pub neighbours-at-spec : {M : Type 1} → statement M
+neighbours-at-spec =
+    tie.close
+    (tie.spec
+    Inv-loop
+    μ-loop
+    mul-i-end
+    loop-holds
+    neighbour-requires
+    array-write-near
+    add-i
+    loop-less
+    loop-again
+    returns)

@@ -1,0 +1,5 @@
+-- Document 01, "Sheet": the neighbours of a block.
+pub mod Neighbours
+pub mod Answer
+pub mod Laws
+pub mod Examples
