@@ -55,44 +55,14 @@ impl Sheet {
         }
     }
 
-    // The predicted block of a pattern in the next place: n * n samples, row by row, and more past them.
-    fn predict_next(
-        self,
-        samples: &[u8],
-        word: u64,
-        table: &[u8],
-        off0: i32,
-        off1: i32,
-    ) -> [u8; SAMPLES]
-        requires { ⌜ (Open self) × (length (now samples) ≡ area self) × (Predictable (self .n) word (now table) off0 off1) ⌝ }
-        ensures { λ r. ⌜ take (self .n * self .n) r ≡ predicted (self .n) word (neighbours (self .n) (self .width) (self .placed) (now (samples .entry))) (now (table .entry)) off0 off1 ⌝ }
-    {
-        let n = self.n as usize;
-        let near = self.near_next(samples);
-        let border = 4 * n;
-        let count = n * n;
-        let mut block = blank();
-        prediction::predict(
-            n,
-            word,
-            &near[..border],
-            table,
-            off0,
-            off1,
-            &mut block[..count],
-        );
-        block
-    }
-
     // Writes the predicted block of a pattern in the next place, and hands the next state back.
     fn put(mut self, samples: &mut [u8], word: u64, table: &[u8], off0: i32, off1: i32) -> Sheet
         requires { ⌜ (Open self) × (length (now samples) ≡ area self) × (Predictable (self .n) word (now table) off0 off1) ⌝ }
         ensures state { λ r. ⌜ r ≡ after 1 self ⌝ }
         ensures left { λ r. ⌜ now (samples .exit) ≡ written (self .n) (self .width) (nextX self) (nextY self) (predicted (self .n) word (neighbours (self .n) (self .width) (self .placed) (now (samples .entry))) (now (table .entry)) off0 off1) (now (samples .entry)) ⌝ }
     {
-        let block = self.predict_next(samples, word, table, off0, off1);
         let k = self.placed;
-        sheet_blocks::put(samples, self.n, self.width, k, &block);
+        sheet_steps::draw(samples, self.n, self.width, k, word, table, off0, off1);
         self.placed = k + 1;
         self
     }
