@@ -2,14 +2,12 @@
 use borrow.Author.Needs.{needs}
 use borrow.Author.Tests.{not-true, not-false}
 use Prim.Native.Nat.{_*_, _≤_}
-use mathlib.Core.Bool.{true}
 use mathlib.Core.Path.{_≡_, sym, ap, _∙_}
 use native.Mathlib.Omega.{arith}
 use mir.Syntax.{w32}
 use mir.ValLaws.{toZ-ofZ}
 use lib.ListN.{length, replicate, take}
 use lib.Seq.{length-take-le}
-use Rattle.pattern.specs.Size.{sizeOk}
 use Rattle.pattern.proofs.SizeLaws.{size-bounds, square-64}
 use Rattle.prediction.specs.Answer.{predictTold}
 use Rattle.sheet_steps.proofs.DrawLaws.{size-refused, draw-refused, draw-given}
