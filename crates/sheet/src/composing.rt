@@ -1,13 +1,12 @@
 // Composing: every block still missing is chosen and placed.
 ghost use mathlib.Core.Path.{_≡_};
-ghost use mathlib.Core.Logic.{_⊎_};
 ghost use Prim.Native.Nat.{_<_};
 ghost use lib.ListN.{length, set};
 ghost use Rattle.arith.specs.Checks.{answer};
-ghost use Rattle.choice.specs.Answer.{chooseAnswer, chooseTold, recordTold};
-ghost use Rattle.sheet.specs.State.{after, area, finished, Open};
+ghost use Rattle.choice.specs.Answer.{recordTold};
+ghost use Rattle.sheet.specs.State.{after, finished};
 ghost use Rattle.sheet.specs.Place.{materialOf, placedSamples, placeRefusal};
-ghost use Rattle.sheet.specs.Compose.{missing, taskOf, choiceRefusal, Ready, Leaves, composeCase, composeLengthsOk, composeAnswer, composeAfter, composeField};
+ghost use Rattle.sheet.specs.Compose.{missing, taskOf, choiceRefusal, Ready, Leaves, composeLengthsOk, composeAnswer, composeAfter, composeField};
 ghost use Rattle.sheet_checks.specs.Checks.{recordsLent};
 ghost use Rattle.sheet.specs.Told.{composeTold};
 use crate::Composed;
@@ -60,34 +59,6 @@ impl Sheet {
             return false;
         }
         self.blocks() <= records as u64
-    }
-
-    // The choice for the next block.
-    fn choose_next(
-        self,
-        samples: &[u8],
-        original: &[u8],
-        list: &[u64],
-        count: usize,
-        table: &[u8],
-        reach: u32,
-        texture: &[u8],
-    ) -> Choice
-        requires { ⌜ (Open self) × (length (now samples) ≡ area self) × (length (now original) ≡ area self) × ((length (now texture) ≡ 0) ⊎ (length (now texture) ≡ area self)) ⌝ }
-        ensures { λ r. ⌜ chooseTold r ≡ chooseAnswer (composeCase self (taskOf (materialOf (now (list .entry)) count (now (table .entry)) (now (texture .entry))) (now (original .entry)) reach) (now (samples .entry))) ⌝ }
-    {
-        sheet_steps::choose_block(
-            samples,
-            original,
-            self.n,
-            self.width,
-            self.placed,
-            list,
-            count,
-            table,
-            reach,
-            texture,
-        )
     }
 
     // Places a record that is not refused.
@@ -143,7 +114,18 @@ impl Sheet {
         let last = self.blocks() as usize;
         let mut state = self;
         for block in first..last {
-            match state.choose_next(samples, original, list, count, table, reach, texture) {
+            match sheet_steps::choose_block(
+                samples,
+                original,
+                state.n,
+                state.width,
+                state.placed,
+                list,
+                count,
+                table,
+                reach,
+                texture,
+            ) {
                 Choice::Chosen(best) => {
                     state = state.place_next(samples, list, count, table, texture, best);
                     store(kinds, entries, offs0, offs1, block - first, best);
