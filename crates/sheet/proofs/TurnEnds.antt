@@ -5,6 +5,7 @@ use mathlib.Core.List.{List}
 use mathlib.Core.Logic.{_⊎_, ⊎-elim}
 use mathlib.Core.Path.{_≡_, sym, ap, ap₂, _∙_}
 use native.Mathlib.Omega.{arith}
+use borrow.Author.Tests.{ltb-true}
 use lib.IntN.{ℤ}
 use lib.ListN.{length}
 use Rattle.arith.specs.Checks.{Answer, refused, given, answer}
@@ -15,10 +16,13 @@ use Rattle.choice_checks.specs.Refusal.{chooseRefusal}
 use Rattle.choice.specs.Record.{Record}
 use Rattle.choice.specs.Search.{chosen}
 use Rattle.choice.specs.Answer.{chooseAnswer}
+use Rattle.sheet_steps.specs.Steps.{blockCase}
+use Rattle.sheet_steps.proofs.ChooseLaws.{case-inside}
 use Rattle.sheet.specs.State.{area, blocksOf, finished, Open, Lengths}
 use Rattle.sheet.specs.Place.{placeRefusal}
 use Rattle.sheet.specs.Compose.{missing, Task, composeCase, chosenNext, composedTo, over, Leaves, choiceRefusal, Ready}
 use Rattle.sheet.specs.declared.Sheet.{Sheet}
+use Rattle.sheet.proofs.StateLaws.{next-lies}
 use Rattle.sheet.proofs.ComposeLaws.{choose-refusal, chosen-placed}
 use Rattle.sheet.proofs.TurnLaws.{after-end, open-after, Going}
 
@@ -60,6 +64,18 @@ turn S T samples0 kinds0 entries0 first0 second0 ready {k} {state} {samples} goi
     }
 
 module _ {S : Sheet} {T : Task} {state : Sheet} {samples : List ℕ} (t : Turn S T state samples) where
+  -- the block lies inside all that is lent, so that the choice is made of its own samples
+  pub turn-case :
+      blockCase (state .n) (state .width) (state .placed) (T .material .list) (T .material .count) samples (T .original) (T .material .table) (T .reach) (T .material .texture)
+      ≡ composeCase state T samples
+  turn-case =
+      case-inside (state .n) (state .width) (state .placed) (T .material .list) (T .material .count) samples (T .original) (T .material .table) (T .reach) (T .material .texture)
+      (next-lies state (t .is-open) (t .lengths .whole))
+      (next-lies state (t .is-open) (t .original))
+      (λ lit.
+      next-lies state (t .is-open)
+      (⊎-elim (λ e. absurd (omega (arith, ltb-true 0 (length (T .material .texture)) lit))) (λ e. e) (t .lengths .optional)))
+
   -- the choice for the block is refused where composing is
   turn-refusal : chooseRefusal (composeCase state T samples) ≡ choiceRefusal S T
   turn-refusal =

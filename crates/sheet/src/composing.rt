@@ -1,23 +1,19 @@
 // Composing: every block still missing is chosen and placed.
 ghost use mathlib.Core.Path.{_≡_};
-ghost use mathlib.Core.Bool.{cond};
-ghost use mathlib.Core.Logic.{_⊎_};
-ghost use Prim.Native.Nat.{_*_, _<_};
-ghost use lib.ListN.{length, set, take};
+ghost use Prim.Native.Nat.{_<_};
+ghost use lib.ListN.{length, set};
 ghost use Rattle.arith.specs.Checks.{answer};
-ghost use Rattle.choice.specs.Answer.{chooseAnswer, chooseTold, recordTold};
-ghost use Rattle.sheet.specs.State.{after, area, finished, Open};
-ghost use Rattle.sheet.specs.Place.{materialOf, textured, nextTexture, placedSamples, placeRefusal};
-ghost use Rattle.sheet.specs.Compose.{missing, taskOf, choiceRefusal, Ready, Leaves, composeCase, composeLengthsOk, composeAnswer, composeAfter, composeField};
+ghost use Rattle.choice.specs.Answer.{recordTold};
+ghost use Rattle.sheet.specs.State.{after, finished};
+ghost use Rattle.sheet.specs.Place.{materialOf, placedSamples, placeRefusal};
+ghost use Rattle.sheet.specs.Compose.{missing, taskOf, choiceRefusal, Ready, Leaves, composeLengthsOk, composeAnswer, composeAfter, composeField};
 ghost use Rattle.sheet_checks.specs.Checks.{recordsLent};
 ghost use Rattle.sheet.specs.Told.{composeTold};
 use crate::Composed;
 use crate::Placed;
 use crate::Sheet;
-use crate::placing::blank;
 use choice::Best;
 use choice::Choice;
-use sheet_blocks::SAMPLES;
 use sheet_checks::records_lent;
 
 // Writes a record at a place of the lent records.
@@ -63,62 +59,6 @@ impl Sheet {
             return false;
         }
         self.blocks() <= records as u64
-    }
-
-    // The samples of the next block's own texture: n * n, and 0 where none is lent.
-    fn texture_count(self, texture: &[u8]) -> usize
-        requires { ⌜ Open self ⌝ }
-        ensures { λ r. ⌜ r ≡ cond (textured (now (texture .entry))) (self .n * self .n) 0 ⌝ }
-    {
-        if texture.len() == 0 {
-            return 0;
-        }
-        let n = self.n as usize;
-        n * n
-    }
-
-    // The next block's own texture, and more past it.
-    fn texture_next(self, texture: &[u8]) -> [u8; SAMPLES]
-        requires { ⌜ (Open self) × ((length (now texture) ≡ 0) ⊎ (length (now texture) ≡ area self)) ⌝ }
-        ensures { λ r. ⌜ take (cond (textured (now (texture .entry))) (self .n * self .n) 0) r ≡ nextTexture self (now (texture .entry)) ⌝ }
-    {
-        if texture.len() == 0 {
-            return blank();
-        }
-        self.cut_next(texture)
-    }
-
-    // The choice for the next block.
-    fn choose_next(
-        self,
-        samples: &[u8],
-        original: &[u8],
-        list: &[u64],
-        count: usize,
-        table: &[u8],
-        reach: u32,
-        texture: &[u8],
-    ) -> Choice
-        requires { ⌜ (Open self) × (length (now samples) ≡ area self) × (length (now original) ≡ area self) × ((length (now texture) ≡ 0) ⊎ (length (now texture) ≡ area self)) ⌝ }
-        ensures { λ r. ⌜ chooseTold r ≡ chooseAnswer (composeCase self (taskOf (materialOf (now (list .entry)) count (now (table .entry)) (now (texture .entry))) (now (original .entry)) reach) (now (samples .entry))) ⌝ }
-    {
-        let n = self.n as usize;
-        let near = self.near_next(samples);
-        let border = 4 * n;
-        let own = self.cut_next(original);
-        let block = n * n;
-        let light = self.texture_next(texture);
-        let part = self.texture_count(texture);
-        choice::choose(
-            n,
-            list,
-            count,
-            &near[..border],
-            &own[..block],
-            table,
-            reach,
-            &light[..part],
-        )
     }
 
     // Places a record that is not refused.
@@ -174,7 +114,18 @@ impl Sheet {
         let last = self.blocks() as usize;
         let mut state = self;
         for block in first..last {
-            match state.choose_next(samples, original, list, count, table, reach, texture) {
+            match sheet_steps::choose_block(
+                samples,
+                original,
+                state.n,
+                state.width,
+                state.placed,
+                list,
+                count,
+                table,
+                reach,
+                texture,
+            ) {
                 Choice::Chosen(best) => {
                     state = state.place_next(samples, list, count, table, texture, best);
                     store(kinds, entries, offs0, offs1, block - first, best);

@@ -1,98 +1,26 @@
 // Placing a record.
 ghost use mathlib.Core.Path.{_≡_};
-ghost use Prim.Native.Nat.{_*_};
-ghost use lib.ListN.{length, take};
-ghost use Rattle.pattern.specs.Contour.{contourOf};
+ghost use lib.ListN.{length};
 ghost use Rattle.prediction.specs.Block.{predicted};
 ghost use Rattle.sheet_neighbours.specs.Neighbours.{neighbours};
-ghost use Rattle.sheet_blocks.specs.Samples.{written, cut};
+ghost use Rattle.sheet_blocks.specs.Samples.{written};
 ghost use Rattle.record_checks.specs.Meaning.{recordOf};
 ghost use Rattle.sheet.specs.State.{after, area, nextX, nextY, Open};
 ghost use Rattle.sheet.specs.Place.{materialOf, Named, Predictable, nextWord, placeAnswer, placeAfter};
 ghost use Rattle.sheet.specs.Told.{placeTold};
 use crate::Placed;
 use crate::Sheet;
-use pattern::Contoured;
 use record_checks::record_refusal;
-use sheet_blocks::SAMPLES;
-use sheet_neighbours::NEIGHBOURS;
-
-// A block of zeros.
-pub(crate) fn blank() -> [u8; SAMPLES]
-    ensures { λ r. ⌜ length r ≡ 64 ⌝ }
-{
-    [0u8; SAMPLES]
-}
 
 impl Sheet {
-    // The neighbours of the next block: 4n samples, and more past them.
-    pub(crate) fn near_next(self, samples: &[u8]) -> [u8; NEIGHBOURS]
-        requires { ⌜ (Open self) × (length (now samples) ≡ area self) ⌝ }
-        ensures { λ r. ⌜ take (4 * self .n) r ≡ neighbours (self .n) (self .width) (self .placed) (now (samples .entry)) ⌝ }
-    {
-        sheet_neighbours::neighbours_of(samples, self.n, self.width, self.placed)
-    }
-
-    // The next block's part of a sheet's samples: n * n samples, row by row, and more past them.
-    pub(crate) fn cut_next(self, samples: &[u8]) -> [u8; SAMPLES]
-        requires { ⌜ (Open self) × (length (now samples) ≡ area self) ⌝ }
-        ensures { λ r. ⌜ take (self .n * self .n) r ≡ cut (self .n) (self .width) (nextX self) (nextY self) (now (samples .entry)) ⌝ }
-    {
-        sheet_blocks::cut(samples, self.n, self.width, self.placed)
-    }
-
-    // The contour of the next block's own texture.
-    fn contour_next(self, texture: &[u8]) -> u64
-        requires { ⌜ (Open self) × (length (now texture) ≡ area self) ⌝ }
-        ensures { λ r. ⌜ r ≡ contourOf (self .n) (cut (self .n) (self .width) (nextX self) (nextY self) (now (texture .entry))) ⌝ }
-    {
-        let n = self.n as usize;
-        let block = self.cut_next(texture);
-        let count = n * n;
-        match pattern::contour(n, &block[..count]) {
-            Contoured::Word(word) => word,
-            Contoured::Refused(_) => 0,
-        }
-    }
-
-    // The predicted block of a pattern in the next place: n * n samples, row by row, and more past them.
-    fn predict_next(
-        self,
-        samples: &[u8],
-        word: u64,
-        table: &[u8],
-        off0: i32,
-        off1: i32,
-    ) -> [u8; SAMPLES]
-        requires { ⌜ (Open self) × (length (now samples) ≡ area self) × (Predictable (self .n) word (now table) off0 off1) ⌝ }
-        ensures { λ r. ⌜ take (self .n * self .n) r ≡ predicted (self .n) word (neighbours (self .n) (self .width) (self .placed) (now (samples .entry))) (now (table .entry)) off0 off1 ⌝ }
-    {
-        let n = self.n as usize;
-        let near = self.near_next(samples);
-        let border = 4 * n;
-        let count = n * n;
-        let mut block = blank();
-        prediction::predict(
-            n,
-            word,
-            &near[..border],
-            table,
-            off0,
-            off1,
-            &mut block[..count],
-        );
-        block
-    }
-
     // Writes the predicted block of a pattern in the next place, and hands the next state back.
     fn put(mut self, samples: &mut [u8], word: u64, table: &[u8], off0: i32, off1: i32) -> Sheet
         requires { ⌜ (Open self) × (length (now samples) ≡ area self) × (Predictable (self .n) word (now table) off0 off1) ⌝ }
         ensures state { λ r. ⌜ r ≡ after 1 self ⌝ }
         ensures left { λ r. ⌜ now (samples .exit) ≡ written (self .n) (self .width) (nextX self) (nextY self) (predicted (self .n) word (neighbours (self .n) (self .width) (self .placed) (now (samples .entry))) (now (table .entry)) off0 off1) (now (samples .entry)) ⌝ }
     {
-        let block = self.predict_next(samples, word, table, off0, off1);
         let k = self.placed;
-        sheet_blocks::put(samples, self.n, self.width, k, &block);
+        sheet_steps::draw(samples, self.n, self.width, k, word, table, off0, off1);
         self.placed = k + 1;
         self
     }
@@ -106,7 +34,7 @@ impl Sheet {
             let at = entry as usize;
             return list[at];
         }
-        self.contour_next(texture)
+        sheet_steps::contour_block(texture, self.n, self.width, self.placed)
     }
 
     // Places a record: writes its predicted block in the next place and answers the next state, or refuses with 1, 2, 8, 23, 20, 3, 7,

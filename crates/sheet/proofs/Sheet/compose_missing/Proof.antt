@@ -13,7 +13,7 @@ use Rattle.sheet.specs.Place.{materialOf}
 use Rattle.sheet.specs.Compose.{missing, Task, taskOf, composeCase, choiceRefusal}
 use Rattle.sheet.proofs.PlaceLaws.{length-placed}
 use Rattle.sheet.proofs.TurnLaws.{Going, going-none, going-more}
-use Rattle.sheet.proofs.TurnEnds.{room, Turn, turn, turn-refused, turn-none, turn-chosen, turn-placed, left-refused, left-all, told-all}
+use Rattle.sheet.proofs.TurnEnds.{room, Turn, turn, turn-case, turn-refused, turn-none, turn-chosen, turn-placed, left-refused, left-all, told-all}
 use Rattle.sheet.proofs.Sheet.compose_missing.Statement.{statement}
 use Rattle.sheet.proofs.Sheet.compose_missing.Tie as tie
 
@@ -64,8 +64,15 @@ this c =
     let a = d .args in
     turn (a .self) (task d) (a .samples .now) (a .kinds .now) (a .entries .now) (a .offs0 .now) (a .offs1 .now) (d .pre) (c .before .loop .inv .7) (more c) (c .before .loop .inv .2)
 
-choose-next-requires : tie.Need-choose-next-requires Inv-loop μ-loop
-choose-next-requires c κs = let t = this (c .before) in (t .is-open, t .lengths .whole, t .original, t .lengths .optional)
+choose-block-requires : tie.Need-choose-block-requires Inv-loop μ-loop
+choose-block-requires c κs = tt
+
+-- the choice for the block
+answered :
+    (c : tie.After-choose-block Inv-loop μ-loop)
+    → let l = c .before .before in
+    chooseTold (c .choose-block .result) ≡ chooseAnswer (composeCase (l .before .loop .state) (task (begin (l .before))) (l .before .loop .samples))
+answered c = c .choose-block .ensures ∙ ap chooseAnswer (turn-case (this (c .before .before)))
 
 enum-known-best : tie.Need-enum-known-best Inv-loop μ-loop
 enum-known-best c = search needs
@@ -76,7 +83,7 @@ told :
     → let l = c .before .before .before .before in
     let d = begin (l .before) in
     given (recordTold (c .best .given .0 .0), c .best .given .0 .0 .cost) ≡ chooseAnswer (composeCase (l .before .loop .state) (task d) (l .before .loop .samples))
-told c = sym (ap chooseTold (c .best .given .1)) ∙ c .before .before .choose-next .ensures
+told c = sym (ap chooseTold (c .best .given .1)) ∙ answered (c .before .before)
 
 place-next-requires : tie.Need-place-next-requires Inv-loop μ-loop
 place-next-requires c κs = turn-placed (this (c .before .before .before .before .before .before)) (told (c .before .before))
@@ -114,7 +121,7 @@ returns c =
     let l = c .before .before .before .before .before in
     let d = begin (l .before) in
     let a = d .args in
-    let m = turn-refused (this l) (sym (ap chooseTold (c .before .number .given .1)) ∙ c .before .before .before .choose-next .ensures) in
+    let m = turn-refused (this l) (sym (ap chooseTold (c .before .number .given .1)) ∙ answered (c .before .before .before)) in
     let h : choiceRefusal (a .self) (task d) ≡ 0 → ⊥ = λ z. m .1 (m .0 ∙ z) in
     (ap refused (m .0) ∙ answer-refused (choiceRefusal (a .self) (task d)) (finished (a .self), missing (a .self)) h, left-refused (a .self) (task d) (a .samples .now) (a .kinds .now) (a .entries .now) (a .offs0 .now) (a .offs1 .now) (l .before .loop .inv .7) h)
 
@@ -192,7 +199,7 @@ compose-missing-spec =
     cast-first
     blocks-requires
     loop-holds
-    choose-next-requires
+    choose-block-requires
     enum-known-best
     place-next-requires
     sub-store

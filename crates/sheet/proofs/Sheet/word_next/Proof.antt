@@ -1,6 +1,9 @@
 -- `word_next` meets its contract, by the kind.
 use borrow.Author.Needs.{needs}
+use mathlib.Core.Path.{_∙_}
+use Rattle.sheet_steps.proofs.ContourLaws.{contour-inside}
 use Rattle.sheet.proofs.MeaningLaws.{word-contour}
+use Rattle.sheet.proofs.StateLaws.{next-lies}
 use Rattle.sheet.proofs.Sheet.word_next.Statement.{statement}
 use Rattle.sheet.proofs.Sheet.word_next.Tie as tie
 
@@ -13,17 +16,20 @@ shared-slice-read-result c = c .before .before .before .before .pre .1 .listed (
 returns : tie.Need-returns
 returns c = rw (c .before .if1 .taken)
 
-contour-next-requires : tie.Need-contour-next-requires
-contour-next-requires c κs = let d = c .before .before .before in (d .pre .0, d .pre .1 .lit (c .if1 .left) .1)
+contour-block-requires : tie.Need-contour-block-requires
+contour-block-requires c κs = tt
 
 returns-2 : tie.Need-returns-2
 returns-2 c =
     let d = c .before .before .before .before in
     let a = d .args in
-    rw (c .contour-next .ensures)
-    (word-contour (a .self) (a .list .now) (a .texture .now) (a .kind) (a .entry) (c .before .if1 .left) (d .pre .1 .lit (c .before .if1 .left) .0))
+    let S = a .self in
+    let lit = d .pre .1 .lit (c .before .if1 .left) in
+    c .contour-block .ensures
+    ∙ contour-inside (S .n) (S .width) (S .placed) (a .texture .now) (d .pre .0 .size) (next-lies S (d .pre .0) (lit .1))
+    ∙ word-contour S (a .list .now) (a .texture .now) (a .kind) (a .entry) (c .before .if1 .left) (lit .0)
 
 pub word-next-spec : {M : Type 1} → statement M
 word-next-spec =
     tie.close
-    (tie.spec mul-result shared-slice-read-result returns contour-next-requires returns-2)
+    (tie.spec mul-result shared-slice-read-result returns contour-block-requires returns-2)

@@ -1,0 +1,4 @@
+-- Laws of the definitions.
+pub mod DrawLaws
+pub mod ChooseLaws
+pub mod ContourLaws
