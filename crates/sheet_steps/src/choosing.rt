@@ -14,8 +14,8 @@ fn lent_part(texture: &[u8], block: usize) -> usize
     if texture.len() == 0 { 0 } else { block }
 }
 
-// The choice for block k: its neighbours are read from the samples, and its own part from original and texture. A size that is not
-// allowed is refused with 1, and what the block has outside the lent samples is 0.
+// The choice for block k: its neighbours are read from the samples, and its own part from original and texture, each zeros where the
+// block does not lie inside them. A size that is not allowed is refused with 1.
 pub fn choose_block(
     samples: &[u8],
     original: &[u8],
