@@ -15,8 +15,8 @@ use Rattle.pattern.proofs.SizeLaws.{size-bounds}
 use Rattle.sheet_blocks.specs.Grid.{blocks, sideOk}
 use Rattle.sheet.specs.State.{stateOf, sidesOk}
 use Rattle.sheet_checks.proofs.SideLaws.{side-bounds}
-use Rattle.record_text.specs.declared.cursor.SizeFields.{SizeFields}
-use Rattle.record_text.specs.declared.cursor.RecordFields.{RecordFields}
+use Rattle.record_text.specs.declared.fields.SizeFields.{SizeFields}
+use Rattle.record_text.specs.declared.fields.RecordFields.{RecordFields}
 use Rattle.record_text.specs.Printable.{SizePrintable, RecordPrintable}
 use Rattle.record_field.specs.Parsed.{exactly}
 use Rattle.record_text.specs.Line.{sizeTitle, depthTitle, recordTitle, sizeLine, sizeText, valueLine, valueText, recordLine, recordText}

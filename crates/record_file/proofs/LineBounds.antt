@@ -7,7 +7,7 @@ use native.Mathlib.Nat.{div-add-mod', mul-le-mul}
 use native.Mathlib.Omega.{arith}
 use lib.ListN.{length}
 use Rattle.arith.specs.Checks.{unless}
-use Rattle.record_text.specs.declared.cursor.SizeFields.{SizeFields}
+use Rattle.record_text.specs.declared.fields.SizeFields.{SizeFields}
 use Rattle.record_field.specs.Parsed.{Parsed, Parser, badForm, found, exactly}
 use Rattle.record_text.specs.Line.{sizeTitle, depthTitle, recordTitle, sizeLine, valueLine, recordLine}
 use Rattle.record_text.specs.Lines.{Lined, refusedAt, read, judged, line, linesThen, noMeaning, manyLines, ended}

@@ -15,7 +15,7 @@ use Rattle.pattern.specs.Size.{wordOk}
 use Rattle.offset.specs.Offset.{offsetOk}
 use Rattle.choice.specs.Record.{Record}
 use Rattle.record_checks.specs.Meaning.{kindRefusal, offsetRefusal, recordRefusal}
-use Rattle.record_text.specs.declared.cursor.RecordFields.{RecordFields}
+use Rattle.record_text.specs.declared.fields.RecordFields.{RecordFields}
 use Rattle.record_field.specs.Codec.{NumberPrintable}
 use Rattle.record_text.specs.Printable.{RecordPrintable}
 use Rattle.record_text.specs.Lines.{Each}

@@ -17,7 +17,7 @@ use Rattle.sheet.specs.declared.Sheet.{Sheet}
 use Rattle.sheet_blocks.specs.Grid.{blocks}
 use Rattle.sheet.specs.State.{stateOf, area, blocksOf}
 use Rattle.sheet.specs.Place.{textured}
-use Rattle.record_text.specs.declared.cursor.RecordFields.{RecordFields}
+use Rattle.record_text.specs.declared.fields.RecordFields.{RecordFields}
 use Rattle.record_text.specs.Lines.{Lined, read, judged}
 use Rattle.record_text.proofs.LinesLaws.{refused-read}
 use Rattle.record_file.specs.Text.{noRecord, fileText, sizeFieldsOf}

@@ -11,7 +11,7 @@ use Rattle.depth_table.specs.Examples.{sampleTable}
 use Rattle.offset.specs.Offset.{offsetOk}
 use Rattle.sheet.specs.State.{stateOf, stateRefusal}
 use Rattle.record_checks.specs.Meaning.{recordRefusal}
-use Rattle.record_text.specs.declared.cursor.RecordFields.{RecordFields}
+use Rattle.record_text.specs.declared.fields.RecordFields.{RecordFields}
 use Rattle.record_field.specs.Numeral.{digitsOf, furtherDigits, numeral, signedNumeral}
 use Rattle.record_field.specs.Parsed.{exactly}
 use Rattle.record_field.specs.Field.{moreDigits, number, signed, numberText, signedText}

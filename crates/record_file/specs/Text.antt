@@ -6,8 +6,8 @@ use lib.ListN.{length, getD}
 use Rattle.arith.specs.Lists.{listOf}
 use Rattle.choice.specs.Record.{Record}
 use Rattle.record_checks.specs.Meaning.{recordOf}
-use Rattle.record_text.specs.declared.cursor.SizeFields.{SizeFields}
-use Rattle.record_text.specs.declared.cursor.RecordFields.{RecordFields}
+use Rattle.record_text.specs.declared.fields.SizeFields.{SizeFields}
+use Rattle.record_text.specs.declared.fields.RecordFields.{RecordFields}
 use Rattle.record_text.specs.Line.{sizeTitle, depthTitle, recordTitle, sizeText, valueText, recordText}
 use Rattle.record_text.specs.Lines.{texts}
 

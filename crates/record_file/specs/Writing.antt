@@ -12,7 +12,7 @@ use Rattle.pattern.specs.Answer.{countOk}
 use Rattle.sheet.specs.declared.Sheet.{Sheet}
 use Rattle.sheet.specs.State.{blocksOf, stateRefusal}
 use Rattle.record_checks.specs.Meaning.{recordRefusal}
-use Rattle.record_text.specs.declared.cursor.RecordFields.{RecordFields}
+use Rattle.record_text.specs.declared.fields.RecordFields.{RecordFields}
 use Rattle.arith.specs.Lists.{listOf}
 use Rattle.record_file.specs.Text.{fileText, meant}
 

@@ -16,7 +16,7 @@ use Rattle.pattern.specs.Size.{sizeOk}
 use Rattle.sheet_checks.specs.Checks.{newRefusal}
 use Rattle.sheet.specs.State.{stateOf, sidesOk}
 use Rattle.record_checks.proofs.RefusalLaws.{unless-kept}
-use Rattle.record_text.specs.declared.cursor.SizeFields.{SizeFields}
+use Rattle.record_text.specs.declared.fields.SizeFields.{SizeFields}
 use Rattle.record_field.specs.Parsed.{Parsed, Parser, badForm, found}
 use Rattle.record_text.specs.Lines.{Lined, refusedAt, read, judged, line, manyLines}
 use Rattle.record_text.proofs.LinesLaws.{refused-read, line-parts}

@@ -4,7 +4,7 @@ use mathlib.Core.Path.{_≡_}
 use mathlib.Core.List.{List}
 use lib.ListN.{drop, replicate}
 use lib.Seq.{sets}
-use Rattle.record_text.specs.declared.cursor.SizeFields.{SizeFields}
+use Rattle.record_text.specs.declared.fields.SizeFields.{SizeFields}
 use Rattle.record_field.specs.Parsed.{exactly}
 use Rattle.record_text.specs.Line.{recordTitle}
 use Rattle.record_field.specs.Told.{remaining}

@@ -7,8 +7,8 @@ use borrow.Author.Tests.{le-leb, lt-leb}
 use lib.ListN.{length, drop, replicate}
 use lib.Seq.{sets}
 use Rattle.record_field.specs.declared.cursor.Cursor.{Cursor}
-use Rattle.record_text.specs.declared.cursor.SizeFields.{SizeFields}
-use Rattle.record_text.specs.declared.cursor.RecordFields.{RecordFields}
+use Rattle.record_text.specs.declared.fields.SizeFields.{SizeFields}
+use Rattle.record_text.specs.declared.fields.RecordFields.{RecordFields}
 use Rattle.record_text.specs.Lines.{Lined, refusedAt, read, linesThen}
 use Rattle.record_file.specs.Reading.{File, fileOf, Aids, sizeMeaning, frontLines, restLines, fileLines}
 use Rattle.record_file.proofs.FileLaws.{front-parts}

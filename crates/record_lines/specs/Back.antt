@@ -6,8 +6,8 @@ use lib.Dec.{leb}
 use lib.ListN.{length, drop, replicate}
 use lib.Seq.{sets}
 use Rattle.arith.specs.Checks.{unless}
-use Rattle.record_text.specs.declared.cursor.SizeFields.{SizeFields}
-use Rattle.record_text.specs.declared.cursor.RecordFields.{RecordFields}
+use Rattle.record_text.specs.declared.fields.SizeFields.{SizeFields}
+use Rattle.record_text.specs.declared.fields.RecordFields.{RecordFields}
 use Rattle.record_text.specs.Lines.{Lined, refusedAt, read, judged}
 use Rattle.record_file.specs.Text.{sizeFieldsOf}
 use Rattle.record_file.specs.Reading.{File, Aids, recordLinesBy, lastLinesBy, blocksIn, fileLines}

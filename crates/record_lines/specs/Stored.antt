@@ -3,7 +3,7 @@ use Prim.Native.Nat.{ℕ}
 use mathlib.Core.List.{List, map}
 use lib.IntN.{ℤ}
 use lib.Seq.{sets}
-use Rattle.record_text.specs.declared.cursor.RecordFields.{RecordFields}
+use Rattle.record_text.specs.declared.fields.RecordFields.{RecordFields}
 use Rattle.record_field.specs.Told.{remaining}
 use Rattle.record_text.specs.Lines.{Lined, refusedAt, read}
 use Rattle.record_lines.specs.declared.rows.OneRead.{OneRead}

@@ -8,8 +8,8 @@ use lib.IntN.{ℤ, natAbs}
 use lib.ListN.{length}
 use lib.Seq.{sets}
 use Rattle.record_field.specs.declared.cursor.Cursor.{Cursor}
-use Rattle.record_text.specs.declared.cursor.SizeFields.{SizeFields}
-use Rattle.record_text.specs.declared.cursor.RecordFields.{RecordFields}
+use Rattle.record_text.specs.declared.fields.SizeFields.{SizeFields}
+use Rattle.record_text.specs.declared.fields.RecordFields.{RecordFields}
 use Rattle.record_field.specs.Numeral.{numeralEnd}
 
 -- the bytes afterwards: `sets` puts the text's bytes in turn from the place on

@@ -11,7 +11,7 @@ use lib.Seq.{sets, sets-eq, length-sets, take-at}
 use Rattle.sheet.specs.State.{after}
 use Rattle.sheet.specs.Place.{materialOf, placeRefusal, placedInTurn}
 use Rattle.sheet_checks.specs.Checks.{recordsLent}
-use Rattle.record_text.specs.declared.cursor.SizeFields.{SizeFields}
+use Rattle.record_text.specs.declared.fields.SizeFields.{SizeFields}
 use Rattle.record_text.specs.Lines.{Lined, refusedAt, read}
 use Rattle.record_file.specs.Text.{meant, recordAt}
 use Rattle.record_file.specs.Reading.{File, fileOf, Aids, blocksIn, fileLines, readLengthsOk, readFile}

@@ -22,8 +22,8 @@ use Rattle.sheet.specs.Place.{Material, placeRefusal, placedSamples, placedInTu
 use Rattle.sheet_checks.specs.Checks.{recordsLent}
 use Rattle.sheet_checks.proofs.SideLaws.{side-bounds}
 use Rattle.sheet.proofs.StateLaws.{lengths-do, open-none}
-use Rattle.record_text.specs.declared.cursor.SizeFields.{SizeFields}
-use Rattle.record_text.specs.declared.cursor.RecordFields.{RecordFields}
+use Rattle.record_text.specs.declared.fields.SizeFields.{SizeFields}
+use Rattle.record_text.specs.declared.fields.RecordFields.{RecordFields}
 use Rattle.record_file.specs.Text.{noRecord, recordAt, sizeFieldsOf}
 use Rattle.record_file.specs.Reading.{File, Aids, sizeMeaning}
 use Rattle.record_file.proofs.FileLaws.{FileSound, size-small}

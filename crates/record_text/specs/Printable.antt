@@ -1,6 +1,6 @@
 -- The lines that can be printed. Assumes nothing.
-use Rattle.record_text.specs.declared.cursor.SizeFields.{SizeFields}
-use Rattle.record_text.specs.declared.cursor.RecordFields.{RecordFields}
+use Rattle.record_text.specs.declared.fields.SizeFields.{SizeFields}
+use Rattle.record_text.specs.declared.fields.RecordFields.{RecordFields}
 use Rattle.record_field.specs.Codec.{NumberPrintable, SignedPrintable}
 
 -- each number of a size line has one

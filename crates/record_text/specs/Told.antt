@@ -1,8 +1,8 @@
 -- What each case of the code's answers says where a line is read. Assumes nothing.
 use Prim.Native.Nat.{ℕ}
 use mathlib.Core.List.{List}
-use Rattle.record_text.specs.declared.cursor.SizeFields.{SizeFields}
-use Rattle.record_text.specs.declared.cursor.RecordFields.{RecordFields}
+use Rattle.record_text.specs.declared.fields.SizeFields.{SizeFields}
+use Rattle.record_text.specs.declared.fields.RecordFields.{RecordFields}
 use Rattle.record_text.specs.declared.line.TextRead.{TextRead}
 use Rattle.record_text.specs.declared.line.TextRead.the-variants as textRead
 use Rattle.record_text.specs.declared.line.SizeRead.{SizeRead}

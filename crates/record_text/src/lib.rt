@@ -1,9 +1,9 @@
 // The lines of the record file (document 01: house file), and reading them.
-mod cursor;
+mod fields;
 mod line;
 
-pub use cursor::RecordFields;
-pub use cursor::SizeFields;
+pub use fields::RecordFields;
+pub use fields::SizeFields;
 pub use line::RecordRead;
 pub use line::SizeRead;
 pub use line::TextRead;

@@ -12,8 +12,8 @@ use Rattle.arith.specs.Lists.{listOf}
 use Rattle.arith.proofs.CheckLaws.{answer-refused, answer-given, lent-refused, lent-given}
 use Rattle.arith.proofs.ListLaws.{listOf-own}
 use Rattle.record_field.specs.declared.cursor.Cursor.{Cursor}
-use Rattle.record_text.specs.declared.cursor.RecordFields.{RecordFields}
-use Rattle.record_text.specs.declared.cursor.SizeFields.{SizeFields}
+use Rattle.record_text.specs.declared.fields.RecordFields.{RecordFields}
+use Rattle.record_text.specs.declared.fields.SizeFields.{SizeFields}
 use Rattle.sheet.specs.declared.Sheet.{Sheet}
 use Rattle.record_field.specs.Numeral.{numeralEnd}
 use Rattle.record_text.specs.Line.{sizeTitle, depthTitle, recordTitle, sizeText, valueText, recordText}

@@ -21,7 +21,7 @@ use Rattle.sheet.specs.State.{stateOf, area, blocksOf, sidesOk, Open}
 use Rattle.sheet.specs.Place.{placedInTurn}
 use Rattle.sheet_checks.proofs.SideLaws.{side-bounds}
 use Rattle.sheet.proofs.InTurnLaws.{whole-same}
-use Rattle.record_text.specs.declared.cursor.RecordFields.{RecordFields}
+use Rattle.record_text.specs.declared.fields.RecordFields.{RecordFields}
 use Rattle.record_text.specs.Lines.{Lined, refusedAt, read}
 use Rattle.record_file.specs.Text.{meant, noRecord, recordAt}
 use Rattle.record_file.specs.Reading.{File, Aids}

@@ -14,7 +14,7 @@ use Rattle.wedgelet.specs.Wedgelet.{wedgeletList}
 use Rattle.wedgelet.specs.Answer.{needed, listRefusal, listAnswer, listAfter}
 use Rattle.wedgelet.proofs.AnswerLaws.{words-enough}
 use Rattle.record_field.specs.Parsed.{badForm, found, exactly}
-use Rattle.record_text.specs.declared.cursor.SizeFields.{SizeFields}
+use Rattle.record_text.specs.declared.fields.SizeFields.{SizeFields}
 use Rattle.record_text.specs.Line.{sizeTitle, sizeLine}
 use Rattle.record_file.specs.Reading.{aidsOf}
 use Rattle.sheet_text.specs.Showing.{sizeIn, aidsFor, Listing}

@@ -5,7 +5,7 @@ use mathlib.Core.List.{List, _++_}
 use native.Mathlib.Omega.{arith}
 use lib.ListN.{length, take, drop, length-append, take-append-drop}
 use lib.Seq.{length-take-le}
-use Rattle.record_text.specs.declared.cursor.SizeFields.{SizeFields}
+use Rattle.record_text.specs.declared.fields.SizeFields.{SizeFields}
 use Rattle.record_field.specs.Parsed.{Parsed, badForm, found, andThen, exactly}
 use Rattle.record_text.specs.Line.{sizeTitle, depthTitle, recordTitle, sizeLine, valueText}
 use Rattle.record_text.specs.Lines.{Lined, refusedAt, read, noMeaning}

@@ -18,7 +18,7 @@ use Rattle.sheet_neighbours.specs.Neighbours.{leftSource, topSource, neighbours
 use Rattle.sheet_blocks.specs.Samples.{written}
 use Rattle.record_checks.specs.Meaning.{recordRefusal}
 use Rattle.sheet.specs.Place.{placedSamples, placedInTurn}
-use Rattle.record_text.specs.declared.cursor.RecordFields.{RecordFields}
+use Rattle.record_text.specs.declared.fields.RecordFields.{RecordFields}
 use Rattle.record_field.specs.Numeral.{digitsOf, furtherDigits, numeral, signedNumeral}
 use Rattle.record_field.specs.Parsed.{exactly}
 use Rattle.record_field.specs.Field.{moreDigits, number, signed, numberText, signedText}

@@ -8,7 +8,7 @@ use lib.ListN.{length, take, drop}
 use Rattle.arith.specs.Checks.{unless, Answer, answer, lent}
 use Rattle.pattern.specs.Size.{sizeOk}
 use Rattle.wedgelet.specs.Wedgelet.{wedgeletList}
-use Rattle.record_text.specs.declared.cursor.SizeFields.{SizeFields}
+use Rattle.record_text.specs.declared.fields.SizeFields.{SizeFields}
 use Rattle.record_field.specs.Parsed.{Parsed, badForm, found, andThen, exactly}
 use Rattle.record_text.specs.Line.{sizeTitle, sizeLine}
 use Rattle.record_text.specs.Lines.{Lined, refusedAt, read}

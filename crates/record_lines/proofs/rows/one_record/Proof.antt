@@ -4,7 +4,7 @@ use mathlib.Core.Path.{_≡_, sym, _∙_, ap}
 use Prim.Native.Nat.{ℕ}
 use lib.ListN.{drop}
 use Rattle.record_checks.specs.Meaning.{recordRefusal}
-use Rattle.record_text.specs.declared.cursor.RecordFields.{RecordFields}
+use Rattle.record_text.specs.declared.fields.RecordFields.{RecordFields}
 use Rattle.record_field.specs.Parsed.{found}
 use Rattle.record_text.specs.Line.{recordLine}
 use Rattle.record_text.specs.Told.{recordTold}
