@@ -10,7 +10,8 @@ use Rattle.arith.specs.Checks.{answer}
 use Rattle.arith.specs.Least.{First, leastTo}
 use Rattle.arith.proofs.LeastLaws.{leastTo-first}
 use Rattle.side_cost.specs.Offset.{InReach, trial, offset}
-use Rattle.choice_checks.specs.Case.{Case, textured}
+use Rattle.choice_checks.specs.Case.{Case}
+use Rattle.pattern.specs.Answer.{textured}
 use Rattle.choice_checks.specs.Refusal.{chooseRefusal}
 use Rattle.choice_checks.proofs.AcceptLaws.{accepted}
 use Rattle.choice.specs.Record.{Record, PatternIn, Within, patternOf, costOf, Before, LeastRecord, OneLeast}
@@ -90,7 +91,7 @@ module _ (C : Case) where
       ))
       (v .1))
 
-  module _ (some : (0 < C .count) ⊎ (textured C ≡ true)) where
+  module _ (some : (0 < C .count) ⊎ (textured (C .texture) ≡ true)) where
     abbrev best : ℕ
     best = bestPattern C
 

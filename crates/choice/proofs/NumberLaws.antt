@@ -11,7 +11,8 @@ use borrow.Author.Tests.{lt-ltb, le-ltb, ltb-true}
 use Rattle.arith.specs.Least.{leastTo}
 use Rattle.arith.proofs.Bools.{clash}
 use Rattle.arith.proofs.LeastLaws.{leastTo-first}
-use Rattle.choice_checks.specs.Case.{Case, textured}
+use Rattle.choice_checks.specs.Case.{Case}
+use Rattle.pattern.specs.Answer.{textured}
 use Rattle.choice.specs.Record.{PatternIn, patternBy}
 use Rattle.choice.specs.Search.{patternAt, lastPattern}
 
@@ -48,7 +49,7 @@ module _ (C : Case) where
 
   pub number-in : (k e : ℕ) → PatternIn C k e → numberOf k e ≤ lastPattern C
   number-in k e =
-      ⊎-elim (λ w. rw (w .0) (omega (arith, w .1, last-by (textured C)))) (λ w. rw (w .0, lt-ltb 0 (length (C .texture)) (w .2)) (omega arith))
+      ⊎-elim (λ w. rw (w .0) (omega (arith, w .1, last-by (textured (C .texture))))) (λ w. rw (w .0, lt-ltb 0 (length (C .texture)) (w .2)) (omega arith))
 
   pub number-pattern : (k e : ℕ) → PatternIn C k e → patternAt C (numberOf k e) ≡ patternBy C k e
   number-pattern k e =
@@ -73,15 +74,15 @@ module _ (C : Case) where
 
   -- the number of an entry, or with texture the count
   number-cases :
-      (b : Bool) → textured C ≡ b → (0 < C .count) ⊎ (b ≡ true) → (p : ℕ) → p ≤ cond b (C .count) (C .count - 1) → Dec (p < C .count)
+      (b : Bool) → textured (C .texture) ≡ b → (0 < C .count) ⊎ (b ≡ true) → (p : ℕ) → p ≤ cond b (C .count) (C .count - 1) → Dec (p < C .count)
       → (p < C .count) ⊎ ((p ≡ C .count) × (0 < length (C .texture)))
   number-cases b e s p l (yes h) = inl h
   number-cases true e s p l (no h) = inr (omega arith, ltb-true 0 (length (C .texture)) e)
   number-cases false e s p l (no h) = ⊎-elim (λ q. absurd (omega arith)) (λ q. clash (sym q)) s
 
   pub number-either :
-      (0 < C .count) ⊎ (textured C ≡ true) → (p : ℕ) → p ≤ lastPattern C → (p < C .count) ⊎ ((p ≡ C .count) × (0 < length (C .texture)))
-  number-either s p l = number-cases (textured C) refl s p l (decLt p (C .count))
+      (0 < C .count) ⊎ (textured (C .texture) ≡ true) → (p : ℕ) → p ≤ lastPattern C → (p < C .count) ⊎ ((p ≡ C .count) × (0 < length (C .texture)))
+  number-either s p l = number-cases (textured (C .texture)) refl s p l (decLt p (C .count))
 
   module _ (p : ℕ) (h : (p < C .count) ⊎ ((p ≡ C .count) × (0 < length (C .texture)))) where
     pub at-in : PatternIn C (kindAt p) (entryAt p)

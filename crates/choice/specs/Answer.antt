@@ -14,11 +14,11 @@ unfoldable pub chooseAnswer : Case → Answer (Record × ℕ)
 chooseAnswer C = answer (chooseRefusal C) (chosen C)
 
 -- document 01's number or values for each case of the code's answer
-abbrev pub recordTold : Best → Record
-recordTold b = record { kind = b .kind; entry = b .entry; off0 = b .off0; off1 = b .off1 }
+abbrev pub bestTold : Best → Record
+bestTold b = record { kind = b .kind; entry = b .entry; off0 = b .off0; off1 = b .off1 }
 
 abbrev pub chooseTold : Choice → Answer (Record × ℕ)
-chooseTold (Chosen b) = given (recordTold b, b .cost)
+chooseTold (Chosen b) = given (bestTold b, b .cost)
 chooseTold (Refused number) = refused number
 
 -- a record that is answered is the one of least cost, first in the order between equals, and the cost is its own

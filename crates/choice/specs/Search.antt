@@ -10,7 +10,8 @@ use Rattle.sides.specs.Sides.{sideDepth}
 use Rattle.offset.specs.Offset.{levelOf}
 use Rattle.side_cost.specs.Offset.{offset}
 use Rattle.side_cost.specs.Cost.{sideCost}
-use Rattle.choice_checks.specs.Case.{Case, textured}
+use Rattle.choice_checks.specs.Case.{Case}
+use Rattle.pattern.specs.Answer.{textured}
 use Rattle.choice.specs.Record.{Record}
 
 -- what partition m costs at the offset with the number t
@@ -31,7 +32,7 @@ abbrev pub patternAt : Case → ℕ → ℕ
 patternAt C p = cond (ltb p (C .count)) (getD (C .list) p 0) (contourOf (C .n) (C .texture))
 
 abbrev pub lastPattern : Case → ℕ
-lastPattern C = cond (textured C) (C .count) (C .count - 1)
+lastPattern C = cond (textured (C .texture)) (C .count) (C .count - 1)
 
 -- the number of the first pattern of least cost
 unfoldable pub bestPattern : Case → ℕ

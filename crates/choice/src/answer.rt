@@ -4,7 +4,7 @@ ghost use Prim.Native.Nat.{_<_, _≤_};
 ghost use Rattle.side_cost.specs.Offset.{offset};
 ghost use Rattle.choice_checks.specs.Case.{caseOf};
 ghost use Rattle.choice.specs.Search.{recordBy};
-ghost use Rattle.choice.specs.Answer.{recordTold, chooseTold, chooseAnswer, LeastGiven};
+ghost use Rattle.choice.specs.Answer.{bestTold, chooseTold, chooseAnswer, LeastGiven};
 use crate::Best;
 use crate::Choice;
 use crate::search::Picked;
@@ -23,7 +23,7 @@ fn offset_of(t: usize) -> i32
 // The record of a pattern and two offsets, from their numbers.
 fn record_of(count: usize, p: Picked) -> Best
     requires { ⌜ (count ≤ 9999) × (p .trial0 < 512) × (p .trial1 < 512) ⌝ }
-    ensures { λ r. ⌜ (recordTold r ≡ recordBy count (p .number) (p .trial0) (p .trial1)) × (r .cost ≡ p .cost) ⌝ }
+    ensures { λ r. ⌜ (bestTold r ≡ recordBy count (p .number) (p .trial0) (p .trial1)) × (r .cost ≡ p .cost) ⌝ }
 {
     let off0 = offset_of(p.trial0);
     let off1 = offset_of(p.trial1);

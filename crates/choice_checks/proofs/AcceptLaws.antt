@@ -15,7 +15,8 @@ use Rattle.arith.proofs.LeastLaws.{last-or-below}
 use Rattle.depth_table.specs.Table.{tableOk}
 use Rattle.pattern.specs.Size.{sizeOk, wordOk}
 use Rattle.pattern.proofs.SizeLaws.{size-bounds}
-use Rattle.choice_checks.specs.Case.{Case, textured}
+use Rattle.choice_checks.specs.Case.{Case}
+use Rattle.pattern.specs.Answer.{textured}
 use Rattle.choice_checks.specs.Refusal.{lengthsOk, wordsOk, chooseRefusal}
 
 -- ---- lengths
@@ -93,7 +94,7 @@ pub record Accepted (C : Case) : Type 0 where
   pub sound : tableOk (C .table) ≡ true
   pub words : wordsOk (C .n) (C .list) (C .count) ≡ true
   pub near : C .reach ≤ 255
-  pub some : (0 < C .count) ⊎ (textured C ≡ true)
+  pub some : (0 < C .count) ⊎ (textured (C .texture) ≡ true)
 
 pub accepted : (C : Case) → chooseRefusal C ≡ 0 → Accepted C
 unfolding chooseRefusal
@@ -103,7 +104,7 @@ accepted C h =
     let c = passed (tableOk (C .table)) 2 _ (b .1) in
     let d = passed (wordsOk (C .n) (C .list) (C .count)) 4 _ (c .1) in
     let e = passed (leb (C .reach) 255) 3 _ (d .1) in
-    let f = passed (ltb 0 (C .count) || textured C) 9 0 (e .1) in
+    let f = passed (ltb 0 (C .count) || textured (C .texture)) 9 0 (e .1) in
     let bounds = size-bounds (C .n) (a .0) in
     record {
       size = a .0;
@@ -113,10 +114,10 @@ accepted C h =
       sound = c .0;
       words = d .0;
       near = leb-true (C .reach) 255 (e .0);
-      some = ⊎-elim (λ p. inl (ltb-true 0 (C .count) p)) (λ p. inr p) (either-of (ltb 0 (C .count)) (textured C) (f .0));
+      some = ⊎-elim (λ p. inl (ltb-true 0 (C .count) p)) (λ p. inr p) (either-of (ltb 0 (C .count)) (textured (C .texture)) (f .0));
     }
 
-some-by : (C : Case) → (0 < C .count) ⊎ (textured C ≡ true) → ltb 0 (C .count) || textured C ≡ true
+some-by : (C : Case) → (0 < C .count) ⊎ (textured (C .texture) ≡ true) → ltb 0 (C .count) || textured (C .texture) ≡ true
 some-by C = ⊎-elim (λ l. rw (lt-ltb 0 (C .count) l)) (λ e. rw e (or-true (ltb 0 (C .count))))
 
 -- such a case is not refused
@@ -152,7 +153,7 @@ module _ (C : Case) where
   -- the checks after the lengths, the last one first
   pub refused-rest :
       sizeOk (C .n) ≡ true → allLengths ≡ true → {table words some : Bool} {r₃ r₅ r₄ r₁₀ : ℕ}
-      → some ≡ ltb 0 (C .count) || textured C → r₁₀ ≡ unless some 10 0 → r₄ ≡ unless (leb (C .reach) 255) 4 r₁₀
+      → some ≡ ltb 0 (C .count) || textured (C .texture) → r₁₀ ≡ unless some 10 0 → r₄ ≡ unless (leb (C .reach) 255) 4 r₁₀
       → words ≡ wordsOk (C .n) (C .list) (C .count) → r₅ ≡ unless words 5 r₄ → table ≡ tableOk (C .table) → r₃ ≡ unless table 3 r₅
       → r₃ ≡ chooseRefusal C
   unfolding chooseRefusal

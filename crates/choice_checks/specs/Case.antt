@@ -1,9 +1,6 @@
 -- Document 01, "Choice": what a choice is given. Assumes nothing.
 use Prim.Native.Nat.{ℕ}
-use mathlib.Core.Bool.{Bool}
 use mathlib.Core.List.{List}
-use lib.Dec.{ltb}
-use lib.ListN.{length}
 
 -- what a choice is given: the size, the wedgelet list (document 01: the edge list) and its count, the neighbours (the border), the
 -- original samples, the depth table, the reach, and texture samples; no texture is the empty list
@@ -29,7 +26,3 @@ caseOf n list count neighbours original table reach texture =
       reach = reach;
       texture = texture;
     }
-
--- whether texture is lent
-abbrev pub textured : Case → Bool
-textured C = ltb 0 (length (C .texture))

@@ -7,15 +7,15 @@ use lib.ListN.{length, getD}
 use Rattle.arith.specs.Checks.{unless}
 use Rattle.depth_table.specs.Table.{tableOk}
 use Rattle.pattern.specs.Size.{sizeOk, wordOk}
-use Rattle.pattern.specs.Answer.{countOk}
-use Rattle.choice_checks.specs.Case.{Case, textured}
+use Rattle.pattern.specs.Answer.{countOk, textureOk, textured}
+use Rattle.choice_checks.specs.Case.{Case}
 
 -- 4n neighbours, n * n original samples, texture of none or n * n samples, and a count that the lent words and 9,999 allow
 unfoldable pub lengthsOk : ℕ → ℕ → ℕ → ℕ → ℕ → ℕ → Bool
 lengthsOk n words count neighbours samples texture =
     eqb neighbours (4 * n)
     && (eqb samples (n * n)
-    && ((eqb texture 0 || eqb texture (n * n))
+    && (textureOk texture (n * n)
     && countOk words count))
 
 -- the first k words of the list mark samples of the block only
@@ -31,4 +31,4 @@ chooseRefusal C =
     (unless (tableOk (C .table)) 3
     (unless (wordsOk (C .n) (C .list) (C .count)) 5
     (unless (leb (C .reach) 255) 4
-    (unless (ltb 0 (C .count) || textured C) 10 0)))))
+    (unless (ltb 0 (C .count) || textured (C .texture)) 10 0)))))

@@ -2,8 +2,9 @@
 ghost use mathlib.Core.Path.{_≡_};
 ghost use mathlib.Core.Bool.{_||_};
 ghost use Prim.Native.Nat.{_*_, _≤_};
-ghost use lib.Dec.{eqb, ltb};
+ghost use lib.Dec.{ltb};
 ghost use lib.ListN.{length};
+ghost use Rattle.pattern.specs.Answer.{textureOk};
 ghost use Rattle.choice_checks.specs.Case.{caseOf};
 ghost use Rattle.choice_checks.specs.Refusal.{lengthsOk, wordsOk, chooseRefusal};
 use pattern::check;
@@ -12,7 +13,7 @@ use pattern::count_ok;
 // Whether a texture is empty or has n * n samples.
 fn texture_ok(n: usize, texture: usize) -> bool
     requires { ⌜ n ≤ 8 ⌝ }
-    ensures { λ r. ⌜ r ≡ eqb texture 0 || eqb texture (n * n) ⌝ }
+    ensures { λ r. ⌜ r ≡ textureOk texture (n * n) ⌝ }
 {
     if texture == 0 {
         return true;

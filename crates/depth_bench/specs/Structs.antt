@@ -11,16 +11,16 @@ use Rattle.choice.specs.Record.{Record}
 use Rattle.depth_bench.specs.declared.Prediction.{Prediction}
 use Rattle.depth_bench.specs.declared.Choice.{Choice}
 
-abbrev pub predictionOf : Answer ℕ → Prediction
-predictionOf (refused number) = record { refusal = number; marks = 0 }
-predictionOf (given count) = record { refusal = 0; marks = count }
+abbrev pub predictionStruct : Answer ℕ → Prediction
+predictionStruct (refused number) = record { refusal = number; marks = 0 }
+predictionStruct (given count) = record { refusal = 0; marks = count }
 
 abbrev pub refusedChoice : ℕ → Choice
 refusedChoice number = record { refusal = number; kind = 0; entry = 0; off0 = pos 0; off1 = pos 0; cost = 0 }
 
-abbrev pub choiceOf : Answer (Record × ℕ) → Choice
-choiceOf (refused number) = refusedChoice number
-choiceOf (given (r, cost)) =
+abbrev pub choiceStruct : Answer (Record × ℕ) → Choice
+choiceStruct (refused number) = refusedChoice number
+choiceStruct (given (r, cost)) =
     record { refusal = 0; kind = r .kind; entry = r .entry; off0 = r .off0; off1 = r .off1; cost = cost }
 
 -- the case that C's choice stands for: the list is the one that `wedgelets` leaves in 756 words, with its own count

@@ -3,7 +3,7 @@ ghost use mathlib.Core.Path.{_≡_};
 ghost use lib.ListN.{length};
 ghost use Rattle.prediction.specs.Answer.{predictAnswer, predictBlock};
 ghost use Rattle.choice.specs.Answer.{chooseAnswer, chooseTold};
-ghost use Rattle.depth_bench.specs.Structs.{predictionOf, choiceOf, refusedChoice, builtCase};
+ghost use Rattle.depth_bench.specs.Structs.{predictionStruct, choiceStruct, refusedChoice, builtCase};
 use prediction::Predicted;
 use wedgelet::Listed;
 
@@ -43,7 +43,7 @@ pub extern "C" fn depth_bench_predict(
     off1: i32,
     block: &mut [u8],
 ) -> Prediction
-    ensures { λ r. ⌜ (r ≡ predictionOf (predictAnswer n word (now (border .entry)) (now (table .entry)) off0 off1 (length (now (block .entry))))) × (now (block .exit) ≡ predictBlock n word (now (border .entry)) (now (table .entry)) off0 off1 (now (block .entry))) ⌝ }
+    ensures { λ r. ⌜ (r ≡ predictionStruct (predictAnswer n word (now (border .entry)) (now (table .entry)) off0 off1 (length (now (block .entry))))) × (now (block .exit) ≡ predictBlock n word (now (border .entry)) (now (table .entry)) off0 off1 (now (block .entry))) ⌝ }
 {
     let answer = prediction::predict(n, word, border, table, off0, off1, block);
     match answer {
@@ -71,7 +71,7 @@ fn refused(number: u8) -> Choice
 
 // What `choice::choose` answered, as C gets it.
 fn told(answer: choice::Choice) -> Choice
-    ensures { λ r. ⌜ r ≡ choiceOf (chooseTold answer) ⌝ }
+    ensures { λ r. ⌜ r ≡ choiceStruct (chooseTold answer) ⌝ }
 {
     match answer {
         choice::Choice::Chosen(best) => Choice {
@@ -96,7 +96,7 @@ pub extern "C" fn depth_bench_choose(
     reach: u32,
     texture: &[u8],
 ) -> Choice
-    ensures { λ r. ⌜ r ≡ choiceOf (chooseAnswer (builtCase n (now (border .entry)) (now (original .entry)) (now (table .entry)) reach (now (texture .entry)))) ⌝ }
+    ensures { λ r. ⌜ r ≡ choiceStruct (chooseAnswer (builtCase n (now (border .entry)) (now (original .entry)) (now (table .entry)) reach (now (texture .entry)))) ⌝ }
 {
     let mut list = [0u64; 756];
     let built = wedgelet::wedgelets(n, &mut list);

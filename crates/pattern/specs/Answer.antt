@@ -1,8 +1,8 @@
 -- What the public calls answer: refusals in document 01's order. Assumes nothing.
 use Prim.Native.Nat.{ℕ, _*_}
-use mathlib.Core.Bool.{Bool, _&&_}
+use mathlib.Core.Bool.{Bool, _&&_, _||_}
 use mathlib.Core.List.{List}
-use lib.Dec.{eqb, leb}
+use lib.Dec.{eqb, leb, ltb}
 use lib.ListN.{length}
 use Rattle.arith.specs.Checks.{unless, Answer, answer}
 use Rattle.pattern.specs.Size.{sizeOk}
@@ -11,6 +11,14 @@ use Rattle.pattern.specs.Contour.{contourOf}
 -- a list's count: no more than the words lent, and at most 9,999
 abbrev pub countOk : ℕ → ℕ → Bool
 countOk words count = leb count words && leb count 9999
+
+-- texture of none, or of as many samples as what it belongs to
+abbrev pub textureOk : ℕ → ℕ → Bool
+textureOk texture samples = eqb texture 0 || eqb texture samples
+
+-- texture is lent where there are samples of it
+abbrev pub textured : List ℕ → Bool
+textured texture = ltb 0 (length texture)
 
 -- 1: the size; 2: not n * n samples
 unfoldable pub samplesRefusal : ℕ → ℕ → ℕ

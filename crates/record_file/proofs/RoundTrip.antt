@@ -16,7 +16,7 @@ use Rattle.depth_table.specs.Table.{tableOk, bytes, rising}
 use Rattle.sheet.specs.declared.Sheet.{Sheet}
 use Rattle.sheet_blocks.specs.Grid.{blocks}
 use Rattle.sheet.specs.State.{stateOf, area, blocksOf}
-use Rattle.sheet.specs.Place.{textured}
+use Rattle.pattern.specs.Answer.{textured}
 use Rattle.record_text.specs.declared.fields.RecordFields.{RecordFields}
 use Rattle.record_text.specs.Lines.{Lined, read, judged}
 use Rattle.record_text.proofs.LinesLaws.{refused-read}

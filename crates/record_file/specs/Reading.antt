@@ -1,16 +1,15 @@
 -- Document 01, "House file": reading the text, line by line. Assumes nothing.
 use Prim.Native.Nat.{ℕ, suc, _+_, _*_, _≤_}
-use mathlib.Core.Bool.{Bool, _&&_, _||_}
+use mathlib.Core.Bool.{Bool, _&&_}
 use mathlib.Core.List.{List}
-use lib.Dec.{eqb, leb, ltb}
+use lib.Dec.{leb, ltb}
 use lib.ListN.{length}
 use Rattle.arith.specs.Checks.{unless}
 use Rattle.pattern.specs.Size.{sizeOk}
-use Rattle.pattern.specs.Answer.{countOk}
+use Rattle.pattern.specs.Answer.{countOk, textureOk, textured}
 use Rattle.sheet_blocks.specs.Grid.{blocks}
 use Rattle.sheet.specs.State.{stateOf, sidesOk}
 use Rattle.record_checks.specs.Meaning.{recordRefusal}
-use Rattle.sheet.specs.Place.{textured}
 use Rattle.record_text.specs.declared.fields.SizeFields.{SizeFields}
 use Rattle.record_text.specs.declared.fields.RecordFields.{RecordFields}
 use Rattle.record_field.specs.Parsed.{exactly}
@@ -43,7 +42,7 @@ unfoldable pub sizeMeaning : ℕ → SizeFields → ℕ
 sizeMeaning texture z =
     unless (sizeOk (z .n)) 1
     (unless (sidesOk (stateOf (z .n) (z .width) (z .height) 0)) 8
-    (unless (eqb texture 0 || eqb texture (z .width * z .height)) 2
+    (unless (textureOk texture (z .width * z .height)) 2
     (unless (leb 1 (z .values) && leb (z .values) 256) 3 0)))
 
 -- the meaning of a value's line, where low is one more than the value before it. 3: above 255, or not rising

@@ -2,7 +2,7 @@
 ghost use mathlib.Core.Path.{_≡_};
 ghost use mathlib.Core.Bool.{_||_};
 ghost use Prim.Native.Nat.{_*_};
-ghost use lib.Dec.{eqb};
+ghost use Rattle.pattern.specs.Answer.{textureOk};
 ghost use Rattle.record_text.specs.Line.{valueLine};
 ghost use Rattle.record_text.specs.Lines.{line, read};
 ghost use Rattle.record_field.specs.Told.{remaining};
@@ -50,7 +50,7 @@ pub(crate) fn value_line(bytes: &[u8], from: Cursor, low: u32, k: u32) -> ValueR
 
 // Whether the texture is none, or of as many samples as the sheet.
 fn texture_ok(texture: usize, width: u32, height: u32) -> bool
-    ensures { λ r. ⌜ r ≡ (eqb texture 0 || eqb texture (width * height)) ⌝ }
+    ensures { λ r. ⌜ r ≡ textureOk texture (width * height) ⌝ }
 {
     let area = width as usize * height as usize;
     texture == 0 || texture == area

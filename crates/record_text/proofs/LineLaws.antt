@@ -7,7 +7,7 @@ use Rattle.record_text.specs.declared.fields.SizeFields.{SizeFields}
 use Rattle.record_text.specs.declared.fields.RecordFields.{RecordFields}
 use Rattle.record_field.specs.Parsed.{Parser}
 use Rattle.record_field.specs.Field.{number, signed, numberText, signedText}
-use Rattle.record_text.specs.Line.{sizeOf, sizeLine, sizeText, valueLine, valueText, recordOf, recordLine, recordText}
+use Rattle.record_text.specs.Line.{sizeNamed, sizeLine, sizeText, valueLine, valueText, recordNamed, recordLine, recordText}
 use Rattle.record_field.specs.Codec.{Codec, NumberPrintable, SignedPrintable}
 use Rattle.record_text.specs.Printable.{SizePrintable, RecordPrintable}
 use Rattle.record_field.proofs.ParsedLaws.{then-codec, mapped-codec}
@@ -43,7 +43,7 @@ pub size-line : Codec sizeLine sizeText SizePrintable
 unfolding sizeLine sizeText
 size-line =
     printable-as
-    (mapped-codec sizeOf (λ (h : SizeFields). (h .n, (h .width, (h .height, h .values)))) (λ f. refl) (λ h. refl)
+    (mapped-codec sizeNamed (λ (h : SizeFields). (h .n, (h .width, (h .height, h .values)))) (λ f. refl) (λ h. refl)
     (then-codec spaced (then-codec spaced (then-codec spaced last))))
     (λ h p. record { n = p .0; width = p .1 .0; height = p .1 .1 .0; values = p .1 .1 .1 })
     (λ h p. (p .n, (p .width, (p .height, p .values))))
@@ -53,7 +53,7 @@ pub record-line : Codec recordLine recordText RecordPrintable
 unfolding recordLine recordText
 record-line =
     printable-as
-    (mapped-codec recordOf (λ (r : RecordFields). (r .kind, (r .entry, (r .off0, r .off1)))) (λ f. refl) (λ r. refl)
+    (mapped-codec recordNamed (λ (r : RecordFields). (r .kind, (r .entry, (r .off0, r .off1)))) (λ f. refl) (λ r. refl)
     (then-codec spaced (then-codec spaced (then-codec spaced-signed last-signed))))
     (λ r p. record { kind = p .0; entry = p .1 .0; off0 = p .1 .1 .0; off1 = p .1 .1 .1 })
     (λ r p. (p .kind, (p .entry, (p .off0, p .off1))))

@@ -26,12 +26,12 @@ abbrev pub sizeFields : Parser (ℕ × (ℕ × (ℕ × ℕ)))
 sizeFields = number 32 then number 32 then number 32 then number 10
 
 -- its fields by name
-abbrev pub sizeOf : ℕ × (ℕ × (ℕ × ℕ)) → SizeFields
-sizeOf f = record { n = f .0; width = f .1 .0; height = f .1 .1 .0; values = f .1 .1 .1 }
+abbrev pub sizeNamed : ℕ × (ℕ × (ℕ × ℕ)) → SizeFields
+sizeNamed f = record { n = f .0; width = f .1 .0; height = f .1 .1 .0; values = f .1 .1 .1 }
 
 -- the line read
 unfoldable pub sizeLine : Parser SizeFields
-sizeLine = mapped sizeOf sizeFields
+sizeLine = mapped sizeNamed sizeFields
 
 -- the line printed
 unfoldable pub sizeText : SizeFields → List ℕ
@@ -50,12 +50,12 @@ abbrev pub recordFields : Parser (ℕ × (ℕ × (ℤ × ℤ)))
 recordFields = number 32 then number 32 then signed 32 then signed 10
 
 -- its fields by name
-abbrev pub recordOf : ℕ × (ℕ × (ℤ × ℤ)) → RecordFields
-recordOf f = record { kind = f .0; entry = f .1 .0; off0 = f .1 .1 .0; off1 = f .1 .1 .1 }
+abbrev pub recordNamed : ℕ × (ℕ × (ℤ × ℤ)) → RecordFields
+recordNamed f = record { kind = f .0; entry = f .1 .0; off0 = f .1 .1 .0; off1 = f .1 .1 .1 }
 
 -- the line read
 unfoldable pub recordLine : Parser RecordFields
-recordLine = mapped recordOf recordFields
+recordLine = mapped recordNamed recordFields
 
 -- the line printed
 unfoldable pub recordText : RecordFields → List ℕ

@@ -23,7 +23,8 @@ use Rattle.sheet_blocks.proofs.AnswerLaws.{length-cut}
 use Rattle.record_checks.proofs.MeaningLaws.{kind-zero, kind-one}
 use Rattle.sheet.specs.State.{nextX, nextY, Open, Lengths}
 use Rattle.record_checks.specs.Meaning.{kindRefusal, offsetRefusal, recordRefusal}
-use Rattle.sheet.specs.Place.{textured, nextTexture, placeRefusal}
+use Rattle.pattern.specs.Answer.{textured}
+use Rattle.sheet.specs.Place.{nextTexture, placeRefusal}
 use Rattle.sheet.specs.Compose.{Task, composeCase, chosenNext, choiceRefusal}
 use Rattle.sheet.specs.declared.Sheet.{Sheet}
 use Rattle.sheet.proofs.StateLaws.{lengths-do, open-none}

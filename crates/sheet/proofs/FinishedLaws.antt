@@ -16,7 +16,8 @@ use Rattle.choice.specs.Record.{Record}
 use Rattle.sheet_checks.specs.Checks.{openRefusalBy}
 use Rattle.sheet.specs.State.{blocksOf, sidesOk, lengthsOk, openRefusal}
 use Rattle.record_checks.specs.Meaning.{kindRefusal, offsetRefusal, recordRefusal}
-use Rattle.sheet.specs.Place.{Material, textured, placeRefusal}
+use Rattle.sheet.specs.Place.{Material, placeRefusal}
+use Rattle.pattern.specs.Answer.{textured}
 use Rattle.sheet.specs.Compose.{Task, choiceRefusal, composeRefusal}
 use Rattle.sheet.specs.declared.Sheet.{Sheet}
 use Rattle.sheet.proofs.EndLaws.{lengthsHold}

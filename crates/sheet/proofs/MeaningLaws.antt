@@ -13,7 +13,8 @@ use Rattle.pattern.specs.Size.{wordOk}
 use Rattle.record_checks.specs.Meaning.{kindRefusal}
 use Rattle.sheet_blocks.specs.Samples.{cut}
 use Rattle.sheet.specs.State.{nextX, nextY}
-use Rattle.sheet.specs.Place.{textured, nextWord}
+use Rattle.pattern.specs.Answer.{textured}
+use Rattle.sheet.specs.Place.{nextWord}
 use Rattle.sheet.specs.declared.Sheet.{Sheet}
 
 -- no contour has a bit from n * n up

@@ -17,7 +17,8 @@ use Rattle.sheet_blocks.proofs.SampleLaws.{length-written}
 use Rattle.record_checks.specs.Meaning.{recordRefusal}
 use Rattle.record_checks.proofs.MeaningLaws.{kind-listed, kind-lit, record-none}
 use Rattle.sheet.specs.State.{after, nextX, nextY, lengthsOk, openRefusal, Lengths}
-use Rattle.sheet.specs.Place.{Material, textured, nextCase, nextWord, Named, placedSamples, Predictable, placeRefusal, placeAnswer, placeAfter}
+use Rattle.sheet.specs.Place.{Material, nextCase, nextWord, Named, placedSamples, Predictable, placeRefusal, placeAnswer, placeAfter}
+use Rattle.pattern.specs.Answer.{textured}
 use Rattle.sheet.specs.declared.Sheet.{Sheet}
 use Rattle.sheet.proofs.StateLaws.{open-kept, open-passed, opened}
 use Rattle.sheet.proofs.MeaningLaws.{word-fits}

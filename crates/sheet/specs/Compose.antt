@@ -15,7 +15,8 @@ use Rattle.choice.specs.Record.{Record}
 use Rattle.choice.specs.Search.{chosen}
 use Rattle.sheet_blocks.specs.Samples.{cut}
 use Rattle.sheet.specs.State.{after, area, blocksOf, finished, nextX, nextY, lengthsOk, openRefusal, Open, Lengths}
-use Rattle.sheet.specs.Place.{Material, textured, nextCase, placedSamples}
+use Rattle.sheet.specs.Place.{Material, nextCase, placedSamples}
+use Rattle.pattern.specs.Answer.{textured}
 use Rattle.sheet.specs.declared.Sheet.{Sheet}
 
 -- the number of blocks still missing

@@ -1,14 +1,14 @@
 -- Document 01, "Sheet": placing a record. Assumes nothing.
 use Prim.Native.Nat.{ℕ, zero, suc, _<_}
 use mathlib.Core.Path.{_≡_}
-use mathlib.Core.Bool.{Bool, true, cond}
+use mathlib.Core.Bool.{true, cond}
 use mathlib.Core.List.{List, []}
-use lib.Dec.{ltb}
 use lib.IntN.{ℤ}
 use lib.ListN.{length}
 use Rattle.arith.specs.Checks.{Answer, answer, lent}
 use Rattle.depth_table.specs.Table.{tableOk}
 use Rattle.pattern.specs.Size.{wordOk}
+use Rattle.pattern.specs.Answer.{textured}
 use Rattle.offset.specs.Offset.{offsetOk}
 use Rattle.choice_checks.specs.Case.{Case, caseOf}
 use Rattle.choice.specs.Record.{Record, patternBy, predictionOf}
@@ -28,10 +28,6 @@ pub record Material : Type 0 where
 
 abbrev pub materialOf : List ℕ → ℕ → List ℕ → List ℕ → Material
 materialOf list count table texture = record { list = list; count = count; table = table; texture = texture }
-
--- texture is lent where there are samples of it
-abbrev pub textured : List ℕ → Bool
-textured texture = ltb 0 (length texture)
 
 -- the next block's own texture; none stays none
 abbrev pub nextTexture : Sheet → List ℕ → List ℕ

@@ -3,7 +3,7 @@ ghost use mathlib.Core.Path.{_≡_};
 ghost use Prim.Native.Nat.{_<_};
 ghost use lib.ListN.{length, set};
 ghost use Rattle.arith.specs.Checks.{answer};
-ghost use Rattle.choice.specs.Answer.{recordTold};
+ghost use Rattle.choice.specs.Answer.{bestTold};
 ghost use Rattle.sheet.specs.State.{after, finished};
 ghost use Rattle.sheet.specs.Place.{materialOf, placedSamples, placeRefusal};
 ghost use Rattle.sheet.specs.Compose.{missing, taskOf, choiceRefusal, Ready, Leaves, composeLengthsOk, composeAnswer, composeAfter, composeField};
@@ -71,9 +71,9 @@ impl Sheet {
         texture: &[u8],
         best: Best,
     ) -> Sheet
-        requires { ⌜ placeRefusal self (length (now samples)) (materialOf (now list) count (now table) (now texture)) (recordTold best) ≡ 0 ⌝ }
+        requires { ⌜ placeRefusal self (length (now samples)) (materialOf (now list) count (now table) (now texture)) (bestTold best) ≡ 0 ⌝ }
         ensures state { λ r. ⌜ r ≡ after 1 self ⌝ }
-        ensures left { λ r. ⌜ now (samples .exit) ≡ placedSamples self (materialOf (now (list .entry)) count (now (table .entry)) (now (texture .entry))) (now (samples .entry)) (recordTold best) ⌝ }
+        ensures left { λ r. ⌜ now (samples .exit) ≡ placedSamples self (materialOf (now (list .entry)) count (now (table .entry)) (now (texture .entry))) (now (samples .entry)) (bestTold best) ⌝ }
     {
         match self.place(
             samples,

@@ -1,12 +1,12 @@
 -- Document 01, "Sheet": what every call checks of a sheet's numbers and of what is lent. Assumes nothing.
 use Prim.Native.Nat.{ℕ, _*_, min}
-use mathlib.Core.Bool.{Bool, _&&_, _||_}
+use mathlib.Core.Bool.{Bool, _&&_}
 use mathlib.Core.List.{List}
 use lib.Dec.{eqb, leb, ltb}
 use Rattle.arith.specs.Checks.{unless}
 use Rattle.depth_table.specs.Table.{tableOk}
 use Rattle.pattern.specs.Size.{sizeOk}
-use Rattle.pattern.specs.Answer.{countOk}
+use Rattle.pattern.specs.Answer.{countOk, textureOk}
 use Rattle.sheet_blocks.specs.Grid.{sideOk, blocks}
 
 -- ---- size and sides
@@ -24,7 +24,7 @@ newRefusal n w h = unless (sizeOk n) 1 (unless (sidesOkBy n w h) 8 0)
 -- as many samples as width * height, texture of none or as many samples, and a count that the lent words and 9,999 allow
 unfoldable pub lengthsOkBy : ℕ → ℕ → ℕ → ℕ → ℕ → ℕ → Bool
 lengthsOkBy w h samples words count texture =
-    eqb samples (w * h) && ((eqb texture 0 || eqb texture (w * h)) && countOk words count)
+    eqb samples (w * h) && (textureOk texture (w * h) && countOk words count)
 
 -- as many records are lent as the shortest of the four slices has
 abbrev pub recordsLent : ℕ → ℕ → ℕ → ℕ → ℕ

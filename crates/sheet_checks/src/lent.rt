@@ -1,14 +1,14 @@
 // What is checked of the lengths of what is lent.
 ghost use mathlib.Core.Path.{_≡_};
 ghost use mathlib.Core.Bool.{_||_};
-ghost use lib.Dec.{eqb};
+ghost use Rattle.pattern.specs.Answer.{textureOk};
 ghost use Rattle.sheet_checks.specs.Checks.{lengthsOkBy, recordsLent};
 use pattern::count_ok;
 use pattern::lesser;
 
 // Whether the texture is none, or of as many samples as the sheet.
 fn texture_ok(texture: usize, area: usize) -> bool
-    ensures { λ r. ⌜ r ≡ eqb texture 0 || eqb texture area ⌝ }
+    ensures { λ r. ⌜ r ≡ textureOk texture area ⌝ }
 {
     texture == 0 || texture == area
 }

@@ -2,12 +2,12 @@
 use Prim.Native.Nat.{ℕ, _*_}
 use mathlib.Core.Bool.{cond}
 use mathlib.Core.List.{List, []}
-use lib.Dec.{ltb}
 use lib.IntN.{ℤ}
-use lib.ListN.{length, take}
+use lib.ListN.{take}
 use Rattle.arith.specs.Checks.{lent}
 use Rattle.pattern.specs.Size.{sizeOk}
 use Rattle.pattern.specs.Contour.{contourOf}
+use Rattle.pattern.specs.Answer.{textured}
 use Rattle.prediction.specs.Answer.{predictRefusal}
 use Rattle.prediction.specs.Block.{predicted}
 use Rattle.choice_checks.specs.Case.{Case, caseOf}
@@ -22,7 +22,7 @@ drawAfter n w k word t off0 off1 s =
 
 -- the texture of block k as `cut` answers it; none stays none
 abbrev pub textureAt : ℕ → ℕ → ℕ → List ℕ → List ℕ
-textureAt n w k texture = cond (ltb 0 (length texture)) (take (n * n) (cutAnswer n w k texture)) []
+textureAt n w k texture = cond (textured texture) (take (n * n) (cutAnswer n w k texture)) []
 
 -- block k as a case of the choice, with what `neighbours_of` and `cut` answer: zeros where it does not lie inside what is lent
 abbrev pub blockCase : ℕ → ℕ → ℕ → List ℕ → ℕ → List ℕ → List ℕ → List ℕ → ℕ → List ℕ → Case

@@ -15,9 +15,8 @@ use Rattle.record_text.proofs.LineLaws.{size-line, value-line, record-line}
 use Rattle.record_field.proofs.ParsedLaws.{exactly-codec, exactly-wrote}
 use Rattle.record_file.specs.Reading.{File, Aids, sizeMeaning, valueMeaning, lowAfter, recordMeaning, unchanged, headLines, tableLines, frontLines, blocksIn, restLines, fileLines, readFile}
 use Rattle.record_file.proofs.FileLaws.{size-small, front-parts, file-wrote}
-use Rattle.record_file.proofs.LineBounds.{blocks-few}
+use Rattle.record_file.proofs.LineBounds.{blocks-few, head-sound}
 use Rattle.sheet_text.specs.Showing.{sizeBy, sizeIn, aidsFor, textBy, shownText, fileSpace}
-use Rattle.record_file.proofs.LineBounds.{head-sound}
 use Rattle.sheet_text.proofs.PrefixLaws.{onward, parsed-same, extended, Within, within-more, none-within, ended-within, line-within, lines-within, many-within}
 
 -- ---- the lines of a file take few bytes: at most 25, 24, 6, 6 for each of 256 values, 21, 26 for each of 1,024 records

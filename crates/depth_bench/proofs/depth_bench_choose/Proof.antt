@@ -2,7 +2,7 @@
 use mathlib.Core.Path.{sym, ap, _∙_}
 use Rattle.wedgelet.specs.Told.{listTold}
 use Rattle.choice.specs.Answer.{chooseAnswer}
-use Rattle.depth_bench.specs.Structs.{choiceOf}
+use Rattle.depth_bench.specs.Structs.{choiceStruct}
 use Rattle.depth_bench.proofs.Built.{built-count, built-refused, built-same}
 use borrow.Author.Needs.{needs}
 use Rattle.depth_bench.proofs.depth_bench_choose.Statement.{statement}
@@ -39,7 +39,7 @@ returns c =
     let a = w .before .before .before .before .before .before .args in
     let k = built-count (a .n) _ (ap listTold (sym (h .built .given .1)) ∙ w .wedgelets .ensures .0) in
     c .told .ensures
-    ∙ ap choiceOf
+    ∙ ap choiceStruct
     (c .before .choose .ensures .0
     ∙ ap chooseAnswer (built-same (a .n) (a .border .now) (a .original .now) (a .table .now) (a .reach) (a .texture .now) (w .wedgelets .ensures .1) k))
 
@@ -49,7 +49,7 @@ returns-2 c =
     let w = h .before .before .before in
     let a = w .before .before .before .before .before .before .args in
     c .refused .ensures
-    ∙ ap choiceOf
+    ∙ ap choiceStruct
     (built-refused (a .n) _ (a .border .now) (a .original .now) (a .table .now) (a .reach) (a .texture .now)
     (ap listTold (sym (h .built2 .given .1)) ∙ w .wedgelets .ensures .0))
 

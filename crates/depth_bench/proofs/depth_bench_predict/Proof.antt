@@ -3,7 +3,7 @@ use mathlib.Core.Path.{sym, ap, _∙_}
 use mir.Syntax.{w32}
 use mir.ValLaws.{toZ-ofZ}
 use Rattle.prediction.specs.Answer.{predictTold}
-use Rattle.depth_bench.specs.Structs.{predictionOf}
+use Rattle.depth_bench.specs.Structs.{predictionStruct}
 use borrow.Author.Needs.{needs}
 use Rattle.depth_bench.proofs.depth_bench_predict.Statement.{statement}
 use Rattle.depth_bench.proofs.depth_bench_predict.Tie as tie
@@ -30,7 +30,7 @@ returns c =
     let e = toZ-ofZ w32 _ (s .fits .off0) in
     let f = toZ-ofZ w32 _ (s .fits .off1) in
     let told = ap predictTold (c .before .answer .given .1) in
-    (rw (e, f) at (ap predictionOf (sym told ∙ p .predict .ensures .0)), rw (e, f) at (p .predict .ensures .1))
+    (rw (e, f) at (ap predictionStruct (sym told ∙ p .predict .ensures .0)), rw (e, f) at (p .predict .ensures .1))
 
 same-length-2 : tie.Need-same-length-2
 same-length-2 c = search needs
@@ -42,7 +42,7 @@ returns-2 c =
     let e = toZ-ofZ w32 _ (s .fits .off0) in
     let f = toZ-ofZ w32 _ (s .fits .off1) in
     let told = ap predictTold (c .before .before .answer2 .given .1) in
-    (rw (c .wide .ensures) (rw (e, f) at (ap predictionOf (sym told ∙ p .predict .ensures .0))), rw (e, f) at (p .predict .ensures .1))
+    (rw (c .wide .ensures) (rw (e, f) at (ap predictionStruct (sym told ∙ p .predict .ensures .0))), rw (e, f) at (p .predict .ensures .1))
 
 pub depth-bench-predict-spec : {M : Type 1} → statement M
 depth-bench-predict-spec =

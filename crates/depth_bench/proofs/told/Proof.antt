@@ -3,7 +3,7 @@ use mathlib.Core.Path.{ap}
 use mir.Syntax.{w32}
 use mir.ValLaws.{toZ-ofZ}
 use Rattle.choice.specs.Answer.{chooseTold}
-use Rattle.depth_bench.specs.Structs.{choiceOf}
+use Rattle.depth_bench.specs.Structs.{choiceStruct}
 use borrow.Author.Needs.{needs}
 use Rattle.depth_bench.proofs.told.Statement.{statement}
 use Rattle.depth_bench.proofs.told.Tie as tie
@@ -22,7 +22,7 @@ returns c =
     let b = c .before .before .answer .given .0 .0 in
     let e = toZ-ofZ w32 (b .off0) (search needs) in
     let f = toZ-ofZ w32 (b .off1) (search needs) in
-    cc (e, f, ap (λ a. choiceOf (chooseTold a)) (c .before .before .answer .given .1))
+    cc (e, f, ap (λ a. choiceStruct (chooseTold a)) (c .before .before .answer .given .1))
 
 returns-2 : tie.Need-returns-2
 returns-2 c = cc

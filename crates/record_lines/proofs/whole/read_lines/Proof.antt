@@ -6,7 +6,7 @@ use native.Mathlib.Nat.{le-trans}
 use native.Mathlib.Omega.{arith}
 use lib.ListN.{length, drop}
 use Rattle.sheet_checks.specs.Checks.{recordsLent}
-use Rattle.sheet.specs.Place.{textured}
+use Rattle.pattern.specs.Answer.{textured}
 use Rattle.record_text.specs.Lines.{Lined}
 use Rattle.record_file.specs.Reading.{File, Aids, aidsOf, blocksIn, fileLines, restLines}
 use Rattle.record_file.proofs.FileLaws.{size-small}

@@ -7,7 +7,7 @@ use borrow.Author.Needs.{needs}
 use lib.ListN.{length, length-set}
 use Rattle.arith.specs.Checks.{refused, given}
 use Rattle.arith.proofs.CheckLaws.{answer-refused}
-use Rattle.choice.specs.Answer.{chooseAnswer, chooseTold, recordTold}
+use Rattle.choice.specs.Answer.{chooseAnswer, chooseTold, bestTold}
 use Rattle.sheet.specs.State.{finished}
 use Rattle.sheet.specs.Place.{materialOf}
 use Rattle.sheet.specs.Compose.{missing, Task, taskOf, composeCase, choiceRefusal}
@@ -82,7 +82,7 @@ told :
     (c : tie.After-best Inv-loop μ-loop)
     → let l = c .before .before .before .before in
     let d = begin (l .before) in
-    given (recordTold (c .best .given .0 .0), c .best .given .0 .0 .cost) ≡ chooseAnswer (composeCase (l .before .loop .state) (task d) (l .before .loop .samples))
+    given (bestTold (c .best .given .0 .0), c .best .given .0 .0 .cost) ≡ chooseAnswer (composeCase (l .before .loop .state) (task d) (l .before .loop .samples))
 told c = sym (ap chooseTold (c .best .given .1)) ∙ answered (c .before .before)
 
 place-next-requires : tie.Need-place-next-requires Inv-loop μ-loop
@@ -148,7 +148,7 @@ loop-again c =
       ap length (stored .1 .0) ∙ simp length-set (i .4),
       ap length (stored .1 .1 .0) ∙ simp length-set (i .5),
       ap length (stored .1 .1 .1) ∙ simp length-set (i .6),
-      rw e (going-more (a .self) (task d) (a .samples .now) (a .kinds .now) (a .entries .now) (a .offs0 .now) (a .offs1 .now) (recordTold (best .best .given .0 .0)) (i .7)
+      rw e (going-more (a .self) (task d) (a .samples .now) (a .kinds .now) (a .entries .now) (a .offs0 .now) (a .offs1 .now) (bestTold (best .best .given .0 .0)) (i .7)
           (lt-of-lt-of-le (more l) (d .pre .kinds-room))
           (lt-of-lt-of-le (more l) (d .pre .entries-room))
           (lt-of-lt-of-le (more l) (d .pre .offs0-room))

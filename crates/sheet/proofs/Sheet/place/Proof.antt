@@ -8,7 +8,8 @@ use lib.ListN.{length}
 use Rattle.choice.specs.Record.{Record}
 use Rattle.record_checks.specs.Meaning.{recordOf, recordRefusal}
 use Rattle.sheet.specs.State.{lengthsOk, openRefusal, Lengths}
-use Rattle.sheet.specs.Place.{Material, materialOf, textured}
+use Rattle.sheet.specs.Place.{Material, materialOf}
+use Rattle.pattern.specs.Answer.{textured}
 use Rattle.sheet.proofs.StateLaws.{lengths-are, Opened, opened}
 use Rattle.sheet.proofs.PlaceLaws.{state-refused, record-refused, named, predictable, all-given}
 use Rattle.sheet.proofs.Sheet.place.Statement.{statement}
