@@ -1,6 +1,7 @@
 -- Laws of lists built by index, and of loops that fill them. Assumes nothing.
 use Prim.Native.Nat.{ℕ, zero, suc, _+_, _≤_, _<_}
 use mathlib.Core.Path.{_≡_, refl, sym, ap, ap₂, _∙_}
+use mathlib.Core.Bool.{Bool, true, false}
 use mathlib.Core.List.{List, [], _∷_, _++_}
 use mathlib.Core.Logic.{⊎-elim}
 use native.Mathlib.Omega.{arith}
@@ -8,7 +9,10 @@ use native.Mathlib.Numerals.{add-one}
 use lib.ListN.{length, getD, set, replicate, length-append, List·getD-append}
 use lib.Seq.{getD-at, getD-set-same, getD-set-other, ext-getD}
 use borrow.Author.Count.{below-more}
-use Rattle.arith.specs.Lists.{listOf, upto}
+use borrow.Author.Tests.{eq-eqb, eqb-true}
+use lib.Dec.{eqb}
+use Rattle.arith.specs.Lists.{listOf, upto, sameList}
+use Rattle.arith.proofs.Bools.{both-of, clash}
 use Rattle.arith.proofs.LeastLaws.{last-or-below}
 
 module _ {A : Type 0} where
@@ -98,3 +102,19 @@ module _ {A : Type 0} where
   -- its end
   pub fill-end : (m k n : ℕ) (f : ℕ → A) (z : A) {r : List A} → r ≡ upto m k f z → k ≤ n → n ≤ k → r ≡ upto m n f z
   fill-end m k n f z e h l = let q : k ≡ n = omega arith in rw (← q) e
+
+-- ---- sameList
+
+pub same-list : (l m : List ℕ) → sameList l m ≡ true → l ≡ m
+unfolding sameList
+same-list [] [] h = refl
+same-list [] (b ∷ m) h = clash (sym h)
+same-list (a ∷ l) [] h = clash (sym h)
+same-list (a ∷ l) (b ∷ m) h =
+    let p = both-of (eqb a b) (sameList l m) h in
+    ap₂ _∷_ (eqb-true a b (p .0)) (same-list l m (p .1))
+
+pub list-same : (l : List ℕ) → sameList l l ≡ true
+unfolding sameList
+list-same [] = refl
+list-same (a ∷ l) = rw (eq-eqb a a refl) (list-same l)

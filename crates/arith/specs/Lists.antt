@@ -1,6 +1,8 @@
--- Lists built by index. Assumes nothing.
+-- Lists built by index, and whether two lists are equal. Assumes nothing.
 use Prim.Native.Nat.{ℕ, zero, suc}
+use mathlib.Core.Bool.{Bool, true, false, _&&_}
 use mathlib.Core.List.{List, [], _∷_, _++_}
+use lib.Dec.{eqb}
 use lib.ListN.{replicate}
 
 module _ {A : Type 0} where
@@ -14,3 +16,10 @@ module _ {A : Type 0} where
   upto m zero f z = replicate m z
   upto zero (suc k) f z = []
   upto (suc m) (suc k) f z = f 0 ∷ upto m k (λ i. f (suc i)) z
+
+-- whether two lists of numbers are equal, as a test
+unfoldable pub sameList : List ℕ → List ℕ → Bool
+sameList [] [] = true
+sameList [] (b ∷ m) = false
+sameList (a ∷ l) [] = false
+sameList (a ∷ l) (b ∷ m) = eqb a b && sameList l m

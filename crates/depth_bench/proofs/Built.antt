@@ -1,45 +1,147 @@
--- The list that a choice for C builds: its count, and its refusal, which is the choice's own. Assumes nothing.
-use Prim.Native.Nat.{ℕ}
-use mathlib.Core.Bool.{Bool, true, false}
-use mathlib.Core.List.{List}
-use mathlib.Core.Path.{_≡_, refl, sym, ap, _∙_}
-use borrow.Author.Tests.{le-leb}
-use lib.ListN.{length, replicate, length-replicate}
-use Rattle.arith.specs.Checks.{refused, given}
-use Rattle.arith.proofs.CheckLaws.{given-means, refused-means}
-use Rattle.pattern.specs.Size.{sizeOk}
+-- The list that C's calls build: its count, its words, and the refusals, which do not depend on it. Assumes nothing.
+use Prim.Native.Nat.{ℕ, zero, suc, _*_, _^_, _≤_, _<_}
+use mathlib.Core.Bool.{Bool, true, false, _&&_}
+use mathlib.Core.List.{List, [], _∷_}
+use mathlib.Core.Path.{_≡_, refl, sym, ap, subst, _∙_}
+use native.Mathlib.Omega.{arith}
+use borrow.Author.Tests.{le-leb, lt-ltb, ltb-true}
+use lib.Dec.{eqb, leb, ltb}
+use lib.ListN.{length, getD, replicate, length-take, length-replicate}
+use lib.Pow.{pow-pos}
+use Rattle.arith.specs.Checks.{unless, refused, given, answer}
+use Rattle.arith.proofs.CheckLaws.{answer-given, answer-refused, given-means, refused-means}
+use Rattle.depth_table.specs.Table.{tableOk}
+use Rattle.pattern.specs.Size.{sizeOk, wordOk}
+use Rattle.pattern.specs.Answer.{countOk, textureOk}
+use Rattle.pattern.proofs.SizeLaws.{size-bounds}
 use Rattle.wedgelet.specs.Wedgelet.{wedgeletList}
-use Rattle.wedgelet.specs.Answer.{needed, listRefusal, listAnswer, listAfter}
-use Rattle.wedgelet.proofs.AnswerLaws.{words-enough}
-use Rattle.choice_checks.specs.Case.{caseOf}
-use Rattle.choice_checks.specs.Refusal.{chooseRefusal}
+use Rattle.wedgelet.specs.Answer.{needed, listRefusal, listAnswer, asBuilt}
+use Rattle.wedgelet.proofs.AnswerLaws.{words-enough, built-is, built-at, wedgelets-build}
+use Rattle.wedgelet.proofs.Growth.{list-length}
+use Rattle.wedgelet.proofs.WedgeletLaws.{list-some, entry-lt}
+use Rattle.choice_checks.specs.Case.{Case, caseOf}
+use Rattle.choice_checks.specs.Refusal.{lengthsOk, wordsOk, chooseRefusal}
+use Rattle.choice_checks.proofs.AcceptLaws.{words-all, refused-size, accepted}
+use Rattle.choice.specs.Record.{Record, LeastRecord}
+use Rattle.choice.specs.Search.{chosen}
 use Rattle.choice.specs.Answer.{chooseAnswer}
-use Rattle.depth_bench.specs.Structs.{builtCase}
+use Rattle.choice.proofs.LeastLaws.{chosen-least}
+use Rattle.depth_bench.specs.declared.Choice.{Choice}
+use Rattle.depth_bench.specs.Built.{builtList, builtCase}
+use Rattle.depth_bench.specs.Structs.{choiceStruct, LeastChoice}
 
--- 756 words are enough, so only the size is refused
-refusal-is : (n : ℕ) (b : Bool) → sizeOk n ≡ b → (listRefusal n (length {A = ℕ} (replicate 756 0)) ≡ 0 → ⊥) → (b ≡ false) × (listRefusal n (length {A = ℕ} (replicate 756 0)) ≡ 1)
-unfolding listRefusal
-refusal-is n true e z =
-    let none : listRefusal n (length {A = ℕ} (replicate 756 0)) ≡ 0 = rw (e, length-replicate {A = ℕ} 756 0, le-leb (needed n) 756 (words-enough n e)) in
-    absurd (z none)
-refusal-is n false e z = (refl, rw e)
+-- ---- the list of an allowed size
 
+module _ (n : ℕ) (size : sizeOk n ≡ true) where
+  abbrev count : ℕ
+  count = length (wedgeletList n)
+
+  -- 756 words are enough
+  none-refused : listRefusal n (length {A = ℕ} (replicate 756 0)) ≡ 0
+  unfolding listRefusal
+  none-refused = rw (size, length-replicate {A = ℕ} 756 0, le-leb (needed n) 756 (words-enough n size))
+
+  -- it is the list as built
+  pub list-as-built : asBuilt n (builtList n) count ≡ true
+  unfolding listAnswer
+  list-as-built =
+      wedgelets-build n (replicate 756 0) count
+      (sym (answer-given (listRefusal n (length {A = ℕ} (replicate 756 0))) count none-refused))
+
+  pub built-few : count ≤ 756
+  built-few = omega (arith, list-length n, words-enough n size)
+
+  -- its count is allowed, and not 0
+  count-allowed : countOk (length (builtList n)) count ≡ true
+  count-allowed =
+      let b = built-is n (builtList n) count list-as-built in
+      let inside : count ≤ length (builtList n) = omega (arith, ap length (b .words), length-take count (builtList n)) in
+      rw (le-leb count (length (builtList n)) inside, le-leb count 9999 (omega (arith, built-few)))
+
+  some-entry : ltb 0 count ≡ true
+  some-entry = lt-ltb 0 count (list-some n (omega (arith, size-bounds n size)))
+
+  -- its words are patterns of the block
+  entry-fits : (i : ℕ) → i < count → wordOk n (getD (builtList n) i 0) ≡ true
+  entry-fits i h =
+      rw (built-at (built-is n (builtList n) count list-as-built) i h)
+      (lt-ltb (getD (wedgeletList n) i 0) (2 ^ (n * n)) (entry-lt n i h))
+
+  entries-fit : wordsOk n (builtList n) count ≡ true
+  entries-fit = words-all n (builtList n) count entry-fits
+
+  -- 5 is not given for an entry
+  pub entry-refusal :
+      (entry : ℕ) → unless (ltb entry count) 6 0 ≡ unless (ltb entry count) 6 (unless (wordOk n (getD (builtList n) entry 0)) 5 0)
+  entry-refusal entry = go (ltb entry count) refl
+    where
+      go : (b : Bool) → ltb entry count ≡ b → unless b 6 0 ≡ unless b 6 (unless (wordOk n (getD (builtList n) entry 0)) 5 0)
+      go true e = rw (entry-fits entry (ltb-true entry count e))
+      go false e = refl
+
+-- what `wedgelets` answered for 756 words
 pub built-count : (n count : ℕ) → given count ≡ listAnswer n (replicate 756 0) → count ≡ length (wedgeletList n)
 unfolding listAnswer
 built-count n count e = sym (given-means (listRefusal n (length {A = ℕ} (replicate 756 0))) (length (wedgeletList n)) count (sym e) .1)
 
-pub built-refused :
-    (n number : ℕ) (neighbours original table : List ℕ) (reach : ℕ) (texture : List ℕ) → refused number ≡ listAnswer n (replicate 756 0)
-    → refused number ≡ chooseAnswer (builtCase n neighbours original table reach texture)
-unfolding listAnswer chooseAnswer chooseRefusal
-built-refused n number neighbours original table reach texture e =
-    let p = refused-means (listRefusal n (length {A = ℕ} (replicate 756 0))) number (length (wedgeletList n)) (sym e) in
-    let q = refusal-is n (sizeOk n) refl (p .1) in
-    rw (q .0) (ap refused (p .0 ∙ q .1))
+-- it refuses no allowed size
+pub never-refused : (n number : ℕ) → sizeOk n ≡ true → refused number ≡ listAnswer n (replicate 756 0) → ⊥
+unfolding listAnswer
+never-refused n number size e =
+    refused-means (listRefusal n (length {A = ℕ} (replicate 756 0))) number (length (wedgeletList n)) (sym e) .1 (none-refused n size)
 
--- the case with that list and count
-pub built-same :
-    (n : ℕ) {list : List ℕ} {count : ℕ} (neighbours original table : List ℕ) (reach : ℕ) (texture : List ℕ)
-    → list ≡ listAfter n (replicate 756 0) → count ≡ length (wedgeletList n)
-    → caseOf n list count neighbours original table reach texture ≡ builtCase n neighbours original table reach texture
-built-same n neighbours original table reach texture e k = λ i. caseOf n (e i) (k i) neighbours original table reach texture
+-- ---- the answer as C gets it
+
+-- no number of a refusal is 0, so that a choice whose refusal is 0 is the one that was given
+least-by : (C : Case) (k : ℕ) (a : Record × ℕ) → (k ≡ 0 → LeastRecord C (a .0) (a .1)) → LeastChoice C (choiceStruct (answer k a))
+least-by C zero a h z = h refl
+least-by C (suc k) a h z = absurd (omega arith)
+
+least-told : (C : Case) → LeastChoice C (choiceStruct (chooseAnswer C))
+unfolding chooseAnswer
+least-told C = least-by C (chooseRefusal C) (chosen C) (λ e. chosen-least C (accepted C e .some))
+
+-- ---- the refusals of a choice
+
+module _ (n : ℕ) (s o t : List ℕ) (R : ℕ) (x : List ℕ) where
+  -- the checks of a choice with a list that is not empty and whose words fit the block
+  checks-by :
+      (list : List ℕ) (count : ℕ) → countOk (length list) count ≡ true → wordsOk n list count ≡ true → ltb 0 count ≡ true
+      → chooseRefusal (caseOf n list count s o t R x)
+      ≡ unless (sizeOk n) 1
+      (unless (eqb (length s) (4 * n) && (eqb (length o) (n * n) && (textureOk (length x) (n * n) && true))) 2
+      (unless (tableOk t) 3 (unless (leb R 255) 4 0)))
+  unfolding chooseRefusal lengthsOk
+  checks-by list count a b c = rw (a, b, c)
+
+  blank-fits : (i : ℕ) → i < 1 → wordOk n (getD (0 ∷ []) i 0) ≡ true
+  blank-fits i h = let z : i ≡ 0 = omega arith in rw z (lt-ltb 0 (2 ^ (n * n)) (pow-pos (n * n)))
+
+  -- a list of one word without marks gives the same refusal
+  pub refusal-before : chooseRefusal (caseOf n (0 ∷ []) 1 s o t R x) ≡ chooseRefusal (builtCase n s o t R x)
+  refusal-before = go (sizeOk n) refl
+    where
+      go : (b : Bool) → sizeOk n ≡ b → chooseRefusal (caseOf n (0 ∷ []) 1 s o t R x) ≡ chooseRefusal (builtCase n s o t R x)
+      go true e =
+          checks-by (0 ∷ []) 1 refl (words-all n (0 ∷ []) 1 blank-fits) refl
+          ∙ sym (checks-by (builtList n) (length (wedgeletList n)) (count-allowed n e) (entries-fit n e) (some-entry n e))
+      go false e = sym (refused-size (caseOf n (0 ∷ []) 1 s o t R x) e) ∙ refused-size (builtCase n s o t R x) e
+
+  -- the case with the list and the count that `wedgelets` left
+  pub built-same :
+      {list : List ℕ} {count : ℕ} → list ≡ builtList n → count ≡ length (wedgeletList n) → caseOf n list count s o t R x ≡ builtCase n s o t R x
+  built-same e k = λ i. caseOf n (e i) (k i) s o t R x
+
+  -- what is refused before the list is built is the choice's refusal
+  pub refused-built : {r : ℕ} → r ≡ chooseRefusal (builtCase n s o t R x) → (r ≡ 0 → ⊥) → refused r ≡ chooseAnswer (builtCase n s o t R x)
+  unfolding chooseAnswer
+  refused-built e h =
+      ap refused e ∙ answer-refused (chooseRefusal (builtCase n s o t R x)) (chosen (builtCase n s o t R x)) (λ z. h (e ∙ z))
+
+  -- what is not refused has an allowed size
+  pub accepted-size : {r : ℕ} → r ≡ chooseRefusal (builtCase n s o t R x) → r ≡ 0 → sizeOk n ≡ true
+  accepted-size e z = accepted (builtCase n s o t R x) (sym e ∙ z) .size
+
+  -- what C gets is the record of least cost
+  pub least-built : {r : Choice} → r ≡ choiceStruct (chooseAnswer (builtCase n s o t R x)) → LeastChoice (builtCase n s o t R x) r
+  least-built e = subst (LeastChoice (builtCase n s o t R x)) (sym e) (least-told (builtCase n s o t R x))

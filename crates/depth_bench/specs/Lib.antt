@@ -1,2 +1,3 @@
--- What C's calls return.
+-- What C's calls stand for, and what they return.
+pub mod Built
 pub mod Structs

@@ -1,15 +1,14 @@
 -- The structs that C gets: a refusal has its number, and 0 in the other fields. Assumes nothing.
 use Prim.Native.Nat.{ℕ}
-use mathlib.Core.List.{List}
+use mathlib.Core.Path.{_≡_}
+use mathlib.Core.List.{[], _∷_}
 use lib.IntN.{pos}
-use lib.ListN.{length, replicate}
 use Rattle.arith.specs.Checks.{Answer, refused, given}
-use Rattle.wedgelet.specs.Answer.{listAfter}
-use Rattle.wedgelet.specs.Wedgelet.{wedgeletList}
-use Rattle.choice_checks.specs.Case.{Case, caseOf}
-use Rattle.choice.specs.Record.{Record}
+use Rattle.choice_checks.specs.Case.{Case}
+use Rattle.choice.specs.Record.{Record, LeastRecord}
 use Rattle.depth_bench.specs.declared.Prediction.{Prediction}
 use Rattle.depth_bench.specs.declared.Choice.{Choice}
+use Rattle.depth_bench.specs.declared.Pattern.{Pattern}
 
 abbrev pub predictionStruct : Answer ℕ → Prediction
 predictionStruct (refused number) = record { refusal = number; marks = 0 }
@@ -23,7 +22,15 @@ choiceStruct (refused number) = refusedChoice number
 choiceStruct (given (r, cost)) =
     record { refusal = 0; kind = r .kind; entry = r .entry; off0 = r .off0; off1 = r .off1; cost = cost }
 
--- the case that C's choice stands for: the list is the one that `wedgelets` leaves in 756 words, with its own count
-abbrev pub builtCase : ℕ → List ℕ → List ℕ → List ℕ → ℕ → List ℕ → Case
-builtCase n neighbours original table reach texture =
-    caseOf n (listAfter n (replicate 756 0)) (length (wedgeletList n)) neighbours original table reach texture
+-- the record in a choice
+abbrev pub recordIn : Choice → Record
+recordIn r = record { kind = r .kind; entry = r .entry; off0 = r .off0; off1 = r .off1 }
+
+-- a choice that is not refused is the record of least cost, first in the order between equals, and the cost is its own
+abbrev pub LeastChoice : Case → Choice → Type 0
+LeastChoice C r = r .refusal ≡ 0 → LeastRecord C (recordIn r) (r .cost)
+
+-- a pattern of at most 64 samples: word 0 has its marks
+abbrev pub patternStruct : Answer ℕ → Pattern
+patternStruct (refused number) = record { refusal = number; word = 0 ∷ 0 ∷ 0 ∷ 0 ∷ [] }
+patternStruct (given w) = record { refusal = 0; word = w ∷ 0 ∷ 0 ∷ 0 ∷ [] }

@@ -1,9 +1,20 @@
 // The calls for C: include/depth_bench.h has their declarations.
 ghost use mathlib.Core.Path.{_≡_};
-ghost use lib.ListN.{length};
+ghost use mathlib.Core.Bool.{true};
+ghost use Prim.Native.Nat.{_*_};
+ghost use lib.Dec.{eqb, ltb};
+ghost use lib.ListN.{length, getD};
+ghost use Rattle.arith.specs.Checks.{unless, refused, given, answer};
+ghost use Rattle.pattern.specs.Size.{sizeOk};
+ghost use Rattle.pattern.specs.Answer.{textureOk, textured};
+ghost use Rattle.pattern.specs.Contour.{contourOf};
+ghost use Rattle.wedgelet.specs.Wedgelet.{wedgeletList};
 ghost use Rattle.prediction.specs.Answer.{predictAnswer, predictBlock};
+ghost use Rattle.choice_checks.specs.Refusal.{chooseRefusal};
 ghost use Rattle.choice.specs.Answer.{chooseAnswer, chooseTold};
-ghost use Rattle.depth_bench.specs.Structs.{predictionStruct, choiceStruct, refusedChoice, builtCase};
+ghost use Rattle.depth_bench.specs.Built.{builtList, builtCase, patternAnswer};
+ghost use Rattle.depth_bench.specs.Structs.{predictionStruct, choiceStruct, refusedChoice, LeastChoice, patternStruct};
+use pattern::Contoured;
 use prediction::Predicted;
 use wedgelet::Listed;
 
@@ -23,6 +34,13 @@ pub struct Choice {
     pub off0: i32,
     pub off1: i32,
     pub cost: u32,
+}
+
+// The words of a pattern: bit y * n + x of word 0 is the mark of sample (x, y), and words 1 to 3 are 0; or the number of the refusal beside 0.
+#[repr(C)]
+pub struct Pattern {
+    pub refusal: u32,
+    pub word: [u64; 4],
 }
 
 // A byte as a longer number.
@@ -86,7 +104,23 @@ fn told(answer: choice::Choice) -> Choice
     }
 }
 
-// The record of least cost, with the wedgelet list for n, as `choice::choose` finds it.
+// The refusal of a choice with the wedgelet list for n, before it is built: of a list the checks see only whether its words fit the block, so
+// that one word without marks stands for it.
+fn built_refusal(
+    n: usize,
+    border: &[u8],
+    original: &[u8],
+    table: &[u8],
+    reach: u32,
+    texture: &[u8],
+) -> u8
+    ensures { λ r. ⌜ r ≡ chooseRefusal (builtCase n (now (border .entry)) (now (original .entry)) (now (table .entry)) reach (now (texture .entry))) ⌝ }
+{
+    let one = [0u64; 1];
+    choice_checks::choose_refusal(n, &one, 1, border, original, table, reach, texture)
+}
+
+// The record of least cost, with the wedgelet list for n, as `choice::choose` finds it. What is refused is refused before the list is built.
 #[no_mangle]
 pub extern "C" fn depth_bench_choose(
     n: usize,
@@ -96,8 +130,13 @@ pub extern "C" fn depth_bench_choose(
     reach: u32,
     texture: &[u8],
 ) -> Choice
-    ensures { λ r. ⌜ r ≡ choiceStruct (chooseAnswer (builtCase n (now (border .entry)) (now (original .entry)) (now (table .entry)) reach (now (texture .entry)))) ⌝ }
+    ensures answered { λ r. ⌜ r ≡ choiceStruct (chooseAnswer (builtCase n (now (border .entry)) (now (original .entry)) (now (table .entry)) reach (now (texture .entry)))) ⌝ }
+    ensures least { λ r. ⌜ LeastChoice (builtCase n (now (border .entry)) (now (original .entry)) (now (table .entry)) reach (now (texture .entry))) r ⌝ }
 {
+    let refusal = built_refusal(n, border, original, table, reach, texture);
+    if refusal != 0 {
+        return refused(refusal);
+    }
     let mut list = [0u64; 756];
     let built = wedgelet::wedgelets(n, &mut list);
     match built {
@@ -112,5 +151,87 @@ pub extern "C" fn depth_bench_choose(
             texture,
         )),
         Listed::Refused(number) => refused(number),
+    }
+}
+
+// A refused pattern: the number, and words without marks.
+fn no_pattern(number: u8) -> Pattern
+    ensures { λ r. ⌜ r ≡ patternStruct (refused number) ⌝ }
+{
+    Pattern {
+        refusal: number as u32,
+        word: [0u64; 4],
+    }
+}
+
+// A pattern of at most 64 samples, whose marks word 0 holds.
+fn pattern_in(word: u64) -> Pattern
+    ensures { λ r. ⌜ r ≡ patternStruct (given word) ⌝ }
+{
+    Pattern {
+        refusal: 0,
+        word: [word, 0, 0, 0],
+    }
+}
+
+// Refusal 1 or 2 of a size and so many texture samples, 0 for none.
+fn texture_refusal(n: usize, texture: usize) -> u8
+    ensures { λ r. ⌜ r ≡ unless (sizeOk n) 1 (unless (textureOk texture (n * n)) 2 0) ⌝ }
+{
+    if texture == 0 {
+        return pattern::check(pattern::size_ok(n), 1, 0);
+    }
+    pattern::samples_refusal(n, texture)
+}
+
+// The pattern of an entry of the wedgelet list for n; or refusal 6.
+fn wedgelet_pattern(n: usize, entry: u32) -> Pattern
+    requires { ⌜ sizeOk n ≡ true ⌝ }
+    ensures { λ r. ⌜ r ≡ patternStruct (answer (unless (ltb entry (length (wedgeletList n))) 6 0) (getD (builtList n) entry 0)) ⌝ }
+{
+    let mut list = [0u64; 756];
+    let built = wedgelet::wedgelets(n, &mut list);
+    let at = entry as usize;
+    match built {
+        Listed::Count(count) => {
+            if at < count {
+                return pattern_in(list[at]);
+            }
+            no_pattern(6)
+        }
+        Listed::Refused(number) => no_pattern(number),
+    }
+}
+
+// The contour of the texture; or refusal 7 or 21.
+fn contour_pattern(n: usize, entry: u32, texture: &[u8]) -> Pattern
+    requires { ⌜ (sizeOk n ≡ true) × (textureOk (length (now texture)) (n * n) ≡ true) ⌝ }
+    ensures { λ r. ⌜ r ≡ patternStruct (answer (unless (eqb entry 0) 7 (unless (textured (now (texture .entry))) 21 0)) (contourOf n (now (texture .entry)))) ⌝ }
+{
+    if entry != 0 {
+        return no_pattern(7);
+    }
+    if texture.len() == 0 {
+        return no_pattern(21);
+    }
+    match pattern::contour(n, texture) {
+        Contoured::Word(word) => pattern_in(word),
+        Contoured::Refused(number) => no_pattern(number),
+    }
+}
+
+// The pattern of a record: the entry of the wedgelet list for n, or the contour of the texture, as `depth_bench_choose` means them.
+#[no_mangle]
+pub extern "C" fn depth_bench_pattern_of(n: usize, kind: u32, entry: u32, texture: &[u8]) -> Pattern
+    ensures { λ r. ⌜ r ≡ patternStruct (patternAnswer n kind entry (now (texture .entry))) ⌝ }
+{
+    let refusal = texture_refusal(n, texture.len());
+    if refusal != 0 {
+        return no_pattern(refusal);
+    }
+    match kind {
+        0 => wedgelet_pattern(n, entry),
+        1 => contour_pattern(n, entry, texture),
+        _ => no_pattern(7),
     }
 }

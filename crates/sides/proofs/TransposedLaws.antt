@@ -3,18 +3,44 @@
 use Prim.Native.Nat.{ℕ, _+_, _-_, _*_, _/_, _<_}
 use mathlib.Core.Path.{_≡_, refl, sym, ap, ap₂, _∙_}
 use mathlib.Core.Logic.{_⊎_, inl, inr, ⊎-elim}
-use mathlib.Core.Bool.{Bool, true, false, cond}
+use mathlib.Core.Bool.{Bool, true, false, not, cond, or-true}
 use mathlib.Core.List.{List, _++_}
 use native.Mathlib.Nat.{add-comm}
 use native.Mathlib.Omega.{arith}
-use lib.Dec.{ltb}
+use lib.Dec.{eqb, ltb}
 use lib.ListN.{length, getD, take, drop, length-append, length-take, length-drop, take-append-drop, List·getD-append}
 use lib.Seq.{take-at, drop-at, getD-drop, getD-take, getD-append-add}
-use borrow.Author.Tests.{ltb-true, ltb-false}
+use borrow.Author.Tests.{eq-eqb, eqb-true, ne-eqb, eqb-false, ltb-true, ltb-false}
+use Rattle.arith.proofs.Bools.{either-of, clash}
 use Rattle.pattern.specs.Pattern.{mark, transposed}
 use Rattle.pattern.proofs.PatternLaws.{transposed-mark}
 use Rattle.sides.specs.Sides.{leftAt, topAt, leftChange, topChange, differ, mean, vertEdge, horEdge, ltBy, brBy, lt, br, sideDepth}
-use Rattle.sides.specs.Transposed.{transposedNeighbours, EndsDecide}
+use Rattle.sides.specs.Transposed.{transposedNeighbours, endsDecide, EndsDecide}
+
+-- ---- the condition on the runs
+
+not-by : (b : Bool) → not b ≡ true → b ≡ false
+not-by true h = clash (sym h)
+not-by false h = refl
+
+module _ (n : ℕ) (s : List ℕ) where
+  abbrev Either : Type 0
+  Either = (leftChange n s ≡ topChange n s → ⊥) ⊎ (leftAt s (2 * n - 1) ≡ topAt n s (2 * n - 1))
+
+  ends-either : EndsDecide n s → Either
+  unfolding endsDecide
+  ends-either d =
+      ⊎-elim
+      (λ u. inl (eqb-false (leftChange n s) (topChange n s) (not-by (eqb (leftChange n s) (topChange n s)) u)))
+      (λ e. inr (eqb-true (leftAt s (2 * n - 1)) (topAt n s (2 * n - 1)) e))
+      (either-of (not (eqb (leftChange n s) (topChange n s))) (eqb (leftAt s (2 * n - 1)) (topAt n s (2 * n - 1))) d)
+
+  ends-decide : Either → EndsDecide n s
+  unfolding endsDecide
+  ends-decide =
+      ⊎-elim
+      (λ u. rw (ne-eqb (leftChange n s) (topChange n s) u))
+      (λ e. rw (eq-eqb (leftAt s (2 * n - 1)) (topAt n s (2 * n - 1)) e) (or-true (not (eqb (leftChange n s) (topChange n s)))))
 
 -- ---- the neighbours
 
@@ -54,8 +80,9 @@ module _ (n : ℕ) (s : List ℕ) (long : length s ≡ 4 * n) where
   ends-transposed some d =
       let z : 0 < 2 * n = omega arith in
       let e : 2 * n - 1 < 2 * n = omega arith in
-      rw (transposed-left 0 z, transposed-left (2 * n - 1) e, transposed-top 0 z, transposed-top (2 * n - 1) e)
-      (⊎-elim (λ ne. inl (λ q. ne (sym q))) (λ q. inr (sym q)) d)
+      ends-decide n (transposedNeighbours n s)
+      (rw (transposed-left 0 z, transposed-left (2 * n - 1) e, transposed-top 0 z, transposed-top (2 * n - 1) e)
+      (⊎-elim (λ ne. inl (λ q. ne (sym q))) (λ q. inr (sym q)) (ends-either n s d)))
 
 -- ---- the four cases: transposing exchanges v and h
 
@@ -102,7 +129,7 @@ module _ (n : ℕ) (s : List ℕ) (some : 0 < n) (long : length s ≡ 4 * n) whe
         transposed-top n s long 0 z,
         transposed-top n s long (2 * n - 1) e,
       )
-      (end-exchanged (topChange n s) (leftChange n s) (leftAt s (2 * n - 1)) (topAt n s (2 * n - 1)) d)
+      (end-exchanged (topChange n s) (leftChange n s) (leftAt s (2 * n - 1)) (topAt n s (2 * n - 1)) (ends-either n s d))
   br-exchanged d false true = transposed-top n s long (n - 1) (omega arith)
   br-exchanged d true false = transposed-left n s long (n - 1) (omega arith)
 

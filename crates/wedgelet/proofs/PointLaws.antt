@@ -5,7 +5,7 @@ use mathlib.Core.Path.{_≡_, refl, sym, ap, _∙_}
 use native.Mathlib.Nat.{div-one}
 use native.Mathlib.Omega.{arith}
 use lib.Dec.{ltb, eqb}
-use borrow.Author.Tests.{eq-eqb, ne-eqb, ltb-true, ltb-false}
+use borrow.Author.Tests.{eq-eqb, ne-eqb, lt-ltb, ltb-true, ltb-false}
 use Rattle.arith.proofs.BitLaws.{bits-lt, bits-not}
 use Rattle.pattern.specs.Pattern.{pattern, mark, complement, transposed}
 use Rattle.wedgelet.specs.Wedgelet.{points, pointX, pointY, beside, candidate, unmarked, wedgelet}
@@ -166,3 +166,14 @@ wedgelet-transposed n s e hs he =
     ∙ ap (unmarked n)
     (pattern-ext n _ _ (λ x y _ _. sym (beside-transposed (pointX n s) (pointY n s) (pointX n e) (pointY n e) x y))
     ∙ candidate-of n (acrossPoint n e) (acrossPoint n s) (sym (across-x n e he)) (sym (across-y n e he)) (sym (across-x n s hs)) (sym (across-y n s hs)))
+
+-- the line along the top row leaves the rows below it on one side, so (0,1) is marked
+pub first-marks : (n : ℕ) → 3 ≤ n → mark n (wedgelet n 0 1) 0 1 ≡ true
+unfolding wedgelet flip
+first-marks n h =
+    let f : ℕ → ℕ → Bool = beside 0 0 1 0 in
+    let zeroth : ltb 0 (n - 1) ≡ true = lt-ltb 0 (n - 1) (omega arith) in
+    let first : ltb 1 (n - 1) ≡ true = lt-ltb 1 (n - 1) (omega arith) in
+    ap (λ (w : ℕ). mark n (unmarked n w) 0 1) (sym (candidate-of n 0 1 {xs = 0} {ys = 0} {xe = 1} {ye = 0} (rw zeroth) (rw zeroth) (rw first) (rw first)))
+    ∙ ap (λ (w : ℕ). mark n w 0 1) (unmarked-pattern n f (omega arith))
+    ∙ mark-pattern n (λ x y. flip (f 0 0) (f x y)) 0 1 (omega arith) (omega arith)

@@ -14,9 +14,10 @@ use lib.Seq.{getD-append-seam}
 use Rattle.pattern.specs.Pattern.{mark, transposed}
 use Rattle.wedgelet.specs.Wedgelet.{points, wedgelet, holds, keep, ends, starts, wedgeletList}
 use Rattle.wedgelet.specs.Laws.{Nonzero, Distinct, OriginUnmarked, TransposeClosed}
+use Rattle.arith.proofs.BitLaws.{zero-bit}
 use Rattle.arith.proofs.ListLaws.{length-end}
 use Rattle.pattern.proofs.PatternLaws.{transposed-nonzero}
-use Rattle.wedgelet.proofs.PointLaws.{acrossPoint, across-point-lt, across-injective, wedgelet-lt, wedgelet-origin, wedgelet-transposed}
+use Rattle.wedgelet.proofs.PointLaws.{acrossPoint, across-point-lt, across-injective, wedgelet-lt, wedgelet-origin, wedgelet-transposed, first-marks}
 use Rattle.wedgelet.proofs.Growth.{holds-at}
 
 -- ---- a property of the list that each kept word keeps
@@ -190,6 +191,13 @@ holds-place (a ∷ l) w h = go (eqb a w) refl h (holds-place l w)
     go : (b : Bool) → eqb a w ≡ b → (b || holds l w) ≡ true → (holds l w ≡ true → Place l w) → Place (a ∷ l) w
     go true q r f = record { index = 0; inside = omega arith; there = eqb-true a w q }
     go false q r f = let p = f r in record { index = suc (p .index); inside = omega arith; there = p .there }
+
+-- the list is not empty
+pub list-some : (n : ℕ) → 3 ≤ n → 0 < length (wedgeletList n)
+list-some n h =
+    let marked : wedgelet n 0 1 ≡ 0 → ⊥ = λ z. false≢true (sym (zero-bit (1 * n + 0)) ∙ ap (λ (w : ℕ). mark n w 0 1) (sym z) ∙ first-marks n h) in
+    let p = holds-place (wedgeletList n) (wedgelet n 0 1) (candidate-held n 0 1 (omega arith) (omega arith) (λ e. omega arith) marked) in
+    omega (arith, p .inside)
 
 -- a pattern of the block, and (0,0) is not marked
 pub entry-lt : (n i : ℕ) → i < length (wedgeletList n) → getD (wedgeletList n) i 0 < 2 ^ (n * n)

@@ -1,0 +1,63 @@
+-- What `depth_bench_pattern_of` answers, kind by kind. Assumes nothing.
+use Prim.Native.Nat.{ℕ, zero, suc, _*_}
+use mathlib.Core.Bool.{Bool, true, false, _||_}
+use mathlib.Core.List.{List}
+use mathlib.Core.Path.{_≡_, refl, sym, ap, _∙_}
+use borrow.Author.Tests.{eqb-true, ne-eqb}
+use lib.Dec.{eqb, ltb}
+use lib.ListN.{length, getD}
+use Rattle.arith.specs.Checks.{unless, refused, answer}
+use Rattle.arith.proofs.CheckLaws.{passed, answer-refused, refused-means}
+use Rattle.pattern.specs.Size.{sizeOk}
+use Rattle.pattern.specs.Answer.{textureOk, textured, samplesRefusal, contourAnswer}
+use Rattle.pattern.specs.Contour.{contourOf}
+use Rattle.wedgelet.specs.Wedgelet.{wedgeletList}
+use Rattle.depth_bench.specs.Built.{builtList, patternRefusal, patternAnswer}
+use Rattle.depth_bench.proofs.Built.{entry-refusal}
+
+-- the checks of size and texture
+abbrev pub firstRefusal : ℕ → ℕ → ℕ
+firstRefusal n texture = unless (sizeOk n) 1 (unless (textureOk texture (n * n)) 2 0)
+
+first-of : (a b : Bool) (rest : ℕ) → (unless a 1 (unless b 2 0) ≡ 0 → ⊥) → unless a 1 (unless b 2 0) ≡ unless a 1 (unless b 2 rest)
+first-of true true rest h = absurd (h refl)
+first-of true false rest h = refl
+first-of false b rest h = refl
+
+module _ (n : ℕ) (t : List ℕ) where
+  -- where they refuse, the pattern is refused by their number
+  pub refused-first :
+      (kind entry : ℕ) {r : ℕ} → r ≡ firstRefusal n (length t) → (r ≡ 0 → ⊥) → refused r ≡ patternAnswer n kind entry t
+  unfolding patternAnswer patternRefusal
+  refused-first kind entry e h =
+      let k = e ∙ first-of (sizeOk n) (textureOk (length t) (n * n)) _ (λ z. h (e ∙ z)) in
+      ap refused k ∙ answer-refused (patternRefusal n kind entry t) _ (λ z. h (k ∙ z))
+
+  -- where they do not, both hold
+  pub passed-first : {r : ℕ} → r ≡ firstRefusal n (length t) → r ≡ 0 → (sizeOk n ≡ true) × (textureOk (length t) (n * n) ≡ true)
+  passed-first e z =
+      let p = passed (sizeOk n) 0 _ (sym e ∙ z) in
+      (p .0, passed (textureOk (length t) (n * n)) 1 0 (p .1) .0)
+
+  module _ (size : sizeOk n ≡ true) (fits : textureOk (length t) (n * n) ≡ true) (entry : ℕ) where
+    pub wedgelet-answer :
+        answer (unless (ltb entry (length (wedgeletList n))) 6 0) (getD (builtList n) entry 0) ≡ patternAnswer n 0 entry t
+    unfolding patternAnswer patternRefusal
+    wedgelet-answer = rw (size, fits, ← entry-refusal n size entry)
+
+    pub contour-answer : answer (unless (eqb entry 0) 7 (unless (textured t) 21 0)) (contourOf n t) ≡ patternAnswer n 1 entry t
+    unfolding patternAnswer patternRefusal
+    contour-answer = rw (size, fits)
+
+    pub other-answer : (kind : ℕ) → (kind ≡ 0 → ⊥) → (kind ≡ 1 → ⊥) → refused 7 ≡ patternAnswer n kind entry t
+    unfolding patternAnswer patternRefusal
+    other-answer zero h g = absurd (h refl)
+    other-answer (suc zero) h g = absurd (g refl)
+    other-answer (suc (suc k)) h g = rw (size, fits)
+
+    -- the contour of texture that is lent is not refused
+    pub contour-not-refused : {k : ℕ} → (length t ≡ 0 → ⊥) → refused k ≡ contourAnswer n t → ⊥
+    unfolding contourAnswer samplesRefusal
+    contour-not-refused {k} some e =
+        let long : eqb (length t) (n * n) ≡ true = rw (ne-eqb (length t) 0 some) at fits in
+        refused-means (samplesRefusal n (length t)) k (contourOf n t) (sym e) .1 (rw (size, long))

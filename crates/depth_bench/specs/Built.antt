@@ -1,0 +1,34 @@
+-- What C's calls stand for: a choice, and the pattern of a record, with the list that they build for n. Assumes nothing.
+use Prim.Native.Nat.{ℕ, _*_}
+use mathlib.Core.List.{List, []}
+use lib.ListN.{length, replicate}
+use Rattle.arith.specs.Checks.{unless, Answer, answer}
+use Rattle.pattern.specs.Size.{sizeOk}
+use Rattle.pattern.specs.Answer.{textureOk, textured}
+use Rattle.wedgelet.specs.Answer.{listAfter}
+use Rattle.wedgelet.specs.Wedgelet.{wedgeletList}
+use Rattle.choice_checks.specs.Case.{Case, caseOf}
+use Rattle.choice.specs.Record.{patternBy}
+use Rattle.record_checks.specs.Meaning.{kindRefusal}
+
+-- the list is the one that `wedgelets` leaves in 756 words
+abbrev pub builtList : ℕ → List ℕ
+builtList n = listAfter n (replicate 756 0)
+
+-- the case that C's choice stands for: that list, with its own count
+abbrev pub builtCase : ℕ → List ℕ → List ℕ → List ℕ → ℕ → List ℕ → Case
+builtCase n neighbours original table reach texture =
+    caseOf n (builtList n) (length (wedgeletList n)) neighbours original table reach texture
+
+-- 1: the size; 2: texture is neither none nor of n * n samples; then what a record's kind and entry say, 7, 21 and 6 (no word of the
+-- list is refused by 5)
+unfoldable pub patternRefusal : ℕ → ℕ → ℕ → List ℕ → ℕ
+patternRefusal n kind entry texture =
+    unless (sizeOk n) 1
+    (unless (textureOk (length texture) (n * n)) 2
+    (kindRefusal n (builtList n) (length (wedgeletList n)) (textured texture) kind entry 0))
+
+-- the pattern that a choice for C means by a record's kind and entry
+unfoldable pub patternAnswer : ℕ → ℕ → ℕ → List ℕ → Answer ℕ
+patternAnswer n kind entry texture =
+    answer (patternRefusal n kind entry texture) (patternBy (builtCase n [] [] [] 0 texture) kind entry)
