@@ -97,7 +97,7 @@ least-by : (C : Case) (k : ℕ) (a : Record × ℕ) → (k ≡ 0 → LeastRecord
 least-by C zero a h z = h refl
 least-by C (suc k) a h z = absurd (omega arith)
 
-least-told : (C : Case) → LeastChoice C (choiceStruct (chooseAnswer C))
+pub least-told : (C : Case) → LeastChoice C (choiceStruct (chooseAnswer C))
 unfolding chooseAnswer
 least-told C = least-by C (chooseRefusal C) (chosen C) (λ e. chosen-least C (accepted C e .some))
 

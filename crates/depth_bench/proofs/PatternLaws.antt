@@ -1,19 +1,24 @@
 -- What `depth_bench_pattern_of` answers, kind by kind. Assumes nothing.
 use Prim.Native.Nat.{ℕ, zero, suc, _*_}
-use mathlib.Core.Bool.{Bool, true, false, _||_}
+use mathlib.Core.Bool.{Bool, true, false, or-true}
 use mathlib.Core.List.{List}
+use mathlib.Core.Logic.{_⊎_, ⊎-elim}
 use mathlib.Core.Path.{_≡_, refl, sym, ap, _∙_}
-use borrow.Author.Tests.{eqb-true, ne-eqb}
+use borrow.Author.Tests.{eq-eqb, ne-eqb, lt-ltb}
 use lib.Dec.{eqb, ltb}
 use lib.ListN.{length, getD}
-use Rattle.arith.specs.Checks.{unless, refused, answer}
+use Rattle.arith.specs.Checks.{unless, refused, given, answer}
 use Rattle.arith.proofs.CheckLaws.{passed, answer-refused, refused-means}
 use Rattle.pattern.specs.Size.{sizeOk}
 use Rattle.pattern.specs.Answer.{textureOk, textured, samplesRefusal, contourAnswer}
 use Rattle.pattern.specs.Contour.{contourOf}
 use Rattle.wedgelet.specs.Wedgelet.{wedgeletList}
-use Rattle.depth_bench.specs.Built.{builtList, patternRefusal, patternAnswer}
+use Rattle.choice.specs.Record.{PatternIn, patternBy}
+use Rattle.depth_bench.specs.Built.{builtList, builtCase, patternRefusal, patternAnswer}
 use Rattle.depth_bench.proofs.Built.{entry-refusal}
+
+texture-fits : (t : List ℕ) (k : ℕ) → (length t ≡ 0) ⊎ (length t ≡ k) → textureOk (length t) k ≡ true
+texture-fits t k = ⊎-elim (λ e. rw e) (λ e. rw (eq-eqb (length t) k e) (or-true (eqb (length t) 0)))
 
 -- the checks of size and texture
 abbrev pub firstRefusal : ℕ → ℕ → ℕ
@@ -61,3 +66,14 @@ module _ (n : ℕ) (t : List ℕ) where
     contour-not-refused {k} some e =
         let long : eqb (length t) (n * n) ≡ true = rw (ne-eqb (length t) 0 some) at fits in
         refused-means (samplesRefusal n (length t)) k (contourOf n t) (sym e) .1 (rw (size, long))
+
+-- the pattern of a record within the reach of an accepted choice is answered
+pub pattern-answers :
+    (n : ℕ) (s o t : List ℕ) (R : ℕ) (x : List ℕ) → sizeOk n ≡ true → (length x ≡ 0) ⊎ (length x ≡ n * n)
+    → (kind entry : ℕ) → PatternIn (builtCase n s o t R x) kind entry
+    → patternAnswer n kind entry x ≡ given (patternBy (builtCase n s o t R x) kind entry)
+pattern-answers n s o t R x size optional kind entry =
+    let fits = texture-fits x (n * n) optional in
+    ⊎-elim
+    (λ w. rw (w .0) (sym (wedgelet-answer n x size fits entry) ∙ rw (lt-ltb entry (length (wedgeletList n)) (w .1))))
+    (λ w. rw (w .0) (sym (contour-answer n x size fits entry) ∙ rw (w .1, lt-ltb 0 (length x) (w .2))))

@@ -1,12 +1,17 @@
--- The diagonal law. The transposed case costs no more, since the chosen record has a partner there; transposed again it is the first case,
+-- The least cost and the diagonal law. The transposed case costs no more, since the chosen record has a partner there; transposed again it is the first case,
 -- so that the first costs no more either. Assumes nothing.
-use Prim.Native.Nat.{ℕ, _≤_}
-use mathlib.Core.Path.{_≡_, sym, ap, subst, _∙_}
+use Prim.Native.Nat.{ℕ, zero, suc, _≤_}
+use mathlib.Core.Bool.{true}
+use mathlib.Core.List.{List}
+use mathlib.Core.Path.{_≡_, refl, sym, ap, subst, _∙_}
 use native.Mathlib.Nat.{le-antisymm}
 use native.Mathlib.Omega.{arith}
-use Rattle.arith.specs.Checks.{given}
+use Rattle.arith.specs.Checks.{given, answer}
+use Rattle.arith.proofs.Bools.{both-of}
 use Rattle.arith.proofs.CheckLaws.{answer-given}
-use Rattle.sides.specs.Transposed.{EndsDecide}
+use Rattle.wedgelet.specs.Answer.{asBuilt}
+use Rattle.wedgelet.proofs.AnswerLaws.{built-is, wedgelets-build}
+use Rattle.sides.specs.Transposed.{endsDecide, EndsDecide}
 use Rattle.sides.proofs.TransposedLaws.{ends-transposed}
 use Rattle.choice_checks.specs.Case.{Case}
 use Rattle.choice_checks.specs.Refusal.{chooseRefusal}
@@ -14,17 +19,41 @@ use Rattle.choice.specs.Record.{Record, Within, LeastRecord}
 use Rattle.choice.specs.Search.{chosen}
 use Rattle.choice.specs.Answer.{chooseAnswer}
 use Rattle.choice_checks.proofs.AcceptLaws.{Accepted, accepted}
-use Rattle.choice.proofs.LeastLaws.{chosen-least}
-use Rattle.diagonal.specs.Law.{AsBuilt, transposedCase, OnePartner, OneCost, DiagonalLaw}
-use Rattle.diagonal.proofs.CallLaws.{contour-answers, predict-writes}
-use Rattle.diagonal.proofs.CaseLaws.{wedgelets-build, case-twice, refusal-transposed}
+use Rattle.choice.proofs.LeastLaws.{chosen-least, one-least}
+use Rattle.depth_bench.specs.Structs.{choiceStruct}
+use Rattle.depth_bench.proofs.Built.{list-as-built, least-told}
+use Rattle.depth_bench.proofs.PatternLaws.{pattern-answers}
+use Rattle.diagonal.specs.Law.{transposedTexture, transposedCase, AnswersLeast, OnePartner, OneCost, covered, caseForC, chosenForC, transposedForC, LawForC, DiagonalLaw}
+use Rattle.diagonal.proofs.RecordLaws.{contour-answers, predict-writes}
+use Rattle.diagonal.proofs.TransposedLaws.{case-twice, refusal-transposed}
 use Rattle.diagonal.proofs.PartnerLaws.{one-partner}
 
 -- what a case needs for its law
 record Fit (C : Case) : Type 0 where
   passes : chooseRefusal C ≡ 0
-  built : AsBuilt (C .n) (C .list) (C .count)
+  built : asBuilt (C .n) (C .list) (C .count) ≡ true
   ends : EndsDecide (C .n) (C .neighbours)
+
+fit : (C : Case) → chooseRefusal C ≡ 0 → covered C ≡ true → Fit C
+unfolding covered
+fit C e h =
+    let p = both-of (asBuilt (C .n) (C .list) (C .count)) (endsDecide (C .n) (C .neighbours)) h in
+    record { passes = e; built = p .0; ends = p .1 }
+
+-- ---- the least cost
+
+module _ (C : Case) (passes : chooseRefusal C ≡ 0) where
+  answered : chooseAnswer C ≡ given (chosen C)
+  unfolding chooseAnswer
+  answered = sym (answer-given (chooseRefusal C) (chosen C) passes)
+
+  answers-least : AnswersLeast C
+  answers-least =
+      let o = one-least C passes in
+      let u = o .only (chosen C .0) (chosen C .1) (chosen-least C (accepted C passes .some)) in
+      record { one = o; answers = answered ∙ (λ i. given (u .0 i, u .1 i)) }
+
+-- ---- equal costs
 
 module _ (C : Case) (f : Fit C) where
   fine : Accepted C
@@ -33,27 +62,23 @@ module _ (C : Case) (f : Fit C) where
   least : LeastRecord C (chosen C .0) (chosen C .1)
   least = chosen-least C (fine .some)
 
-  answered : chooseAnswer C ≡ given (chosen C)
-  unfolding chooseAnswer
-  answered = sym (answer-given (chooseRefusal C) (chosen C) (f .passes))
-
   fit-transposed : Fit (transposedCase C)
   fit-transposed =
       record {
         passes = refusal-transposed C (f .passes);
-        built = record { counted = f .built .counted; words = f .built .words };
+        built = f .built;
         ends = ends-transposed (C .n) (C .neighbours) (fine .lengths .bordered) (omega (arith, fine .low)) (f .ends);
       }
 
   partners : (r : Record) → Within C r → OnePartner C r
-  partners = one-partner C fine (f .built) (f .ends)
+  partners = one-partner C fine (built-is (C .n) (C .list) (C .count) (f .built)) (f .ends)
 
 -- the transposed case costs no more
 cost-le : (C : Case) → Fit C → chosen (transposedCase C) .1 ≤ chosen C .1
 cost-le C f =
     let x = least C f in
     let p = partners C f (chosen C .0) (x .within) in
-    omega (arith, x .its-cost, p .same-cost, least (transposedCase C) (fit-transposed C f) .least (p .partner) (p .is-partner .within))
+    omega (arith, x .its-cost, p .alike .same-cost, least (transposedCase C) (fit-transposed C f) .least (p .partner) (p .is-partner .within))
 
 cost-same : (C : Case) → Fit C → chosen (transposedCase C) .1 ≡ chosen C .1
 cost-same C f =
@@ -68,11 +93,43 @@ one-cost C f =
       chosen = chosen C .0;
       chosen-transposed = chosen D .0;
       cost = chosen C .1;
-      answers = answered C f;
-      answers-transposed = answered D g ∙ ap (λ (c : ℕ). given (chosen D .0, c)) (cost-same C f);
-      least = least C f;
-      least-transposed = subst (LeastRecord D (chosen D .0)) (cost-same C f) (least D g);
+      answers = answered C (f .passes);
+      answers-transposed = answered D (g .passes) ∙ ap (λ (c : ℕ). given (chosen D .0, c)) (cost-same C f);
     }
+
+-- ---- the choice for C
+
+-- an answer whose struct has no refusal was given
+not-refused : (k : ℕ) (a : Record × ℕ) → choiceStruct (answer k a) .refusal ≡ 0 → k ≡ 0
+not-refused zero a h = refl
+not-refused (suc k) a h = absurd (omega arith)
+
+module _ (n : ℕ) (s o t : List ℕ) (R : ℕ) (x : List ℕ) (given-one : chosenForC n s o t R x .refusal ≡ 0) where
+  abbrev C : Case
+  C = caseForC n s o t R x
+
+  passes : chooseRefusal C ≡ 0
+  unfolding chooseAnswer
+  passes = not-refused (chooseRefusal C) (chosen C) given-one
+
+  fine-for-c : Accepted C
+  fine-for-c = accepted C passes
+
+  fit-for-c : EndsDecide n s → Fit C
+  fit-for-c d = record { passes = passes; built = list-as-built n (fine-for-c .size); ends = d }
+
+  law-for-c : LawForC n s o t R x
+  law-for-c =
+      record {
+        as-built = list-as-built n (fine-for-c .size);
+        least = least-told C given-one;
+        patterns = λ r h. pattern-answers n s o t R x (fine-for-c .size) (fine-for-c .lengths .optional) (r .kind) (r .entry) (h .pattern-in);
+        accepted = ap (λ a. choiceStruct a .refusal) (answered (transposedCase C) (refusal-transposed C passes));
+        partners = λ d. partners C (fit-for-c d);
+        costs = λ d. ap (λ a. choiceStruct a .cost) (answered (transposedCase C) (refusal-transposed C passes))
+            ∙ cost-same C (fit-for-c d)
+            ∙ sym (ap (λ a. choiceStruct a .cost) (answered C passes));
+      }
 
 pub diagonal-law : DiagonalLaw
 diagonal-law =
@@ -80,7 +137,9 @@ diagonal-law =
       built = wedgelets-build;
       outlined = λ C e. contour-answers C (accepted C e);
       written = λ C e. predict-writes C (accepted C e);
+      least = answers-least;
       accepted = refusal-transposed;
-      partners = λ C e b d. partners C (record { passes = e; built = b; ends = d });
-      costs = λ C e b d. one-cost C (record { passes = e; built = b; ends = d });
+      partners = λ C e h. partners C (fit C e h);
+      costs = λ C e h. one-cost C (fit C e h);
+      for-c = law-for-c;
     }

@@ -1,5 +1,6 @@
--- The proof of the diagonal law.
-pub mod CaseLaws
-pub mod CallLaws
+-- The worked cases, and the proof of the law.
+pub mod Cases
+pub mod TransposedLaws
+pub mod RecordLaws
 pub mod PartnerLaws
 pub mod Diagonal

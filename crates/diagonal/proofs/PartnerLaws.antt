@@ -14,6 +14,7 @@ use Rattle.pattern.specs.Pattern.{transposed}
 use Rattle.wedgelet.specs.Wedgelet.{wedgeletList}
 use Rattle.pattern.proofs.ContourLaws.{contour-transposed}
 use Rattle.wedgelet.proofs.WedgeletLaws.{list-closed}
+use Rattle.wedgelet.proofs.AnswerLaws.{Built, built-at}
 use Rattle.sides.specs.Transposed.{transposedNeighbours, EndsDecide}
 use Rattle.prediction.specs.Block.{predicted}
 use Rattle.prediction.proofs.TransposedLaws.{prediction-transposed}
@@ -21,8 +22,8 @@ use Rattle.choice_checks.specs.Case.{Case}
 use Rattle.choice.specs.Record.{Record, PatternIn, Within, patternBy, patternOf, predictionOf, difference, costOf}
 use Rattle.choice_checks.proofs.AcceptLaws.{Accepted}
 use Rattle.choice.proofs.LeastLaws.{same-record}
-use Rattle.diagonal.specs.Law.{AsBuilt, transposedCase, Partner, OnePartner}
-use Rattle.diagonal.proofs.CaseLaws.{built-at, texture-length, texture-lent}
+use Rattle.diagonal.specs.Law.{transposedCase, Partner, Alike, OnePartner}
+use Rattle.diagonal.proofs.TransposedLaws.{texture-length, texture-lent}
 
 -- ---- what a transposed prediction costs
 
@@ -35,7 +36,7 @@ difference-transposed C p =
 
 -- ---- the partner of an entry, and of the contour
 
-module _ (C : Case) (k : Accepted C) (built : AsBuilt (C .n) (C .list) (C .count)) where
+module _ (C : Case) (k : Accepted C) (built : Built (C .n) (C .list) (C .count)) where
   abbrev D : Case
   D = transposedCase C
 
@@ -112,6 +113,5 @@ module _ (C : Case) (k : Accepted C) (built : AsBuilt (C .n) (C .list) (C .count
               (subst (λ (j : ℕ). PatternIn D j (x .entry)) (q .same-kind) (q .within .pattern-in))
               (subst (λ (j : ℕ). patternBy D j (x .entry) ≡ transposed (C .n) (patternOf C r)) (q .same-kind) (q .transposed-pattern)))
               (q .same-off0) (q .same-off1);
-          same-prediction = partner-predicts r s p;
-          same-cost = partner-costs r s p;
+          alike = record { same-prediction = partner-predicts r s p; same-cost = partner-costs r s p };
         }

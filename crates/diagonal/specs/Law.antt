@@ -1,27 +1,35 @@
--- Demand 3, the diagonal law, of what the calls answer: `Case`, `Within`, `patternOf`, `predictionOf`, `costOf`, `chooseRefusal` and
--- `chooseAnswer` are those that the contract of `choose` cites; `listAnswer` and `listAfter` are what `wedgelets` answers and leaves,
--- `contourAnswer` what `contour` answers, `predictBlock` what `predict` leaves. Turning is called transposing. Assumes nothing.
+-- Demand 3, the least cost and the diagonal law, of what the calls answer: `Case`, `Within`, `patternOf`, `predictionOf`, `costOf`,
+-- `chooseRefusal` and `chooseAnswer` are those that the contract of `choose` cites; `listAnswer` and `listAfter` are what `wedgelets`
+-- answers and leaves, `contourAnswer` what `contour` answers, `predictBlock` what `predict` leaves, and `choiceStruct` of `chooseAnswer` of
+-- `builtCase` what `depth_bench_choose` answers. Turning is called transposing. Assumes nothing.
 use Prim.Native.Nat.{ℕ, _*_}
 use mathlib.Core.Path.{_≡_}
+use mathlib.Core.Bool.{Bool, true, _&&_}
 use mathlib.Core.List.{List, [], _∷_}
-use lib.ListN.{length, take}
+use lib.ListN.{length}
 use Rattle.arith.specs.Checks.{given}
 use Rattle.arith.specs.Square.{transposedList}
 use Rattle.pattern.specs.Pattern.{transposed}
-use Rattle.wedgelet.specs.Wedgelet.{wedgeletList}
 use Rattle.pattern.specs.Answer.{contourAnswer}
-use Rattle.wedgelet.specs.Answer.{listAnswer, listAfter}
+use Rattle.wedgelet.specs.Answer.{listAnswer, listAfter, asBuilt}
 use Rattle.prediction.specs.Answer.{predictBlock}
-use Rattle.sides.specs.Transposed.{transposedNeighbours, EndsDecide}
+use Rattle.sides.specs.Transposed.{transposedNeighbours, endsDecide}
 use Rattle.choice_checks.specs.Case.{Case, caseOf}
 use Rattle.choice_checks.specs.Refusal.{chooseRefusal}
-use Rattle.choice.specs.Record.{Record, Within, patternOf, predictionOf, costOf, LeastRecord}
+use Rattle.choice.specs.Record.{Record, Within, patternOf, predictionOf, costOf, LeastRecord, OneLeast}
 use Rattle.choice.specs.Answer.{chooseAnswer}
+use Rattle.depth_bench.specs.declared.Choice.{Choice}
+use Rattle.depth_bench.specs.Built.{builtCase, patternAnswer}
+use Rattle.depth_bench.specs.Structs.{choiceStruct, recordIn}
 
--- The wedgelet list as built is the one for n, with its count. Words past the count do not matter.
-pub record AsBuilt (n : ℕ) (list : List ℕ) (count : ℕ) : Type 0 where
-  pub counted : count ≡ length (wedgeletList n)
-  pub words : take count list ≡ wedgeletList n
+-- ---- the least cost
+
+-- Exactly one record within the reach is the one of least cost, first in the order between equals, and `choose` answers it with its cost.
+pub record AnswersLeast (C : Case) : Type 0 where
+  pub one : OneLeast C
+  pub answers : chooseAnswer C ≡ given (one .chosen, one .cost)
+
+-- ---- the transposed block
 
 -- No texture stays none.
 abbrev pub transposedTexture : ℕ → List ℕ → List ℕ
@@ -44,30 +52,67 @@ pub record Partner (C : Case) (r s : Record) : Type 0 where
   pub same-off1 : s .off1 ≡ r .off1
   pub transposed-pattern : patternOf (transposedCase C) s ≡ transposed (C .n) (patternOf C r)
 
--- A record has exactly one partner, and that one predicts the transposed prediction at the same cost.
+-- A partner predicts the transposed prediction, at the same cost.
+pub record Alike (C : Case) (r s : Record) : Type 0 where
+  pub same-prediction : predictionOf (transposedCase C) s ≡ transposedList (C .n) (predictionOf C r)
+  pub same-cost : costOf (transposedCase C) s ≡ costOf C r
+
+-- A record has exactly one partner, and that one costs the same.
 pub record OnePartner (C : Case) (r : Record) : Type 0 where
   pub partner : Record
   pub is-partner : Partner C r partner
   pub only : (s : Record) → Partner C r s → s ≡ partner
-  pub same-prediction : predictionOf (transposedCase C) partner ≡ transposedList (C .n) (predictionOf C r)
-  pub same-cost : costOf (transposedCase C) partner ≡ costOf C r
+  pub alike : Alike C r partner
 
--- `choose` answers a record of least cost for the case and for the transposed case, and the cost in both answers is one number. The two
--- records need not be partners.
+-- The cost in the answers for the case and for the transposed case is one number. The two records need not be partners.
 pub record OneCost (C : Case) : Type 0 where
   pub chosen : Record
   pub chosen-transposed : Record
   pub cost : ℕ
   pub answers : chooseAnswer C ≡ given (chosen, cost)
   pub answers-transposed : chooseAnswer (transposedCase C) ≡ given (chosen-transposed, cost)
-  pub least : LeastRecord C chosen cost
-  pub least-transposed : LeastRecord (transposedCase C) chosen-transposed cost
 
--- The law, for every case that a choice accepts with the list as built. Side depths are kept where the neighbours' runs differ from end to
--- end by unequal amounts or end on equal samples, `EndsDecide`.
+-- The cases of which this is said: the list is the one as built, and the runs of the neighbours differ from end to end by unequal
+-- amounts or end on equal samples.
+unfoldable pub covered : Case → Bool
+covered C = asBuilt (C .n) (C .list) (C .count) && endsDecide (C .n) (C .neighbours)
+
+-- ---- the choice for C
+
+module _ (n : ℕ) (neighbours original table : List ℕ) (reach : ℕ) (texture : List ℕ) where
+  -- the case that `depth_bench_choose` builds, and what it answers for the block and for the transposed block
+  abbrev pub caseForC : Case
+  caseForC = builtCase n neighbours original table reach texture
+
+  abbrev pub chosenForC : Choice
+  chosenForC = choiceStruct (chooseAnswer caseForC)
+
+  abbrev pub transposedForC : Choice
+  transposedForC =
+      choiceStruct
+      (chooseAnswer (builtCase n (transposedNeighbours n neighbours) (transposedList n original) table reach (transposedTexture n texture)))
+
+  -- A choice for C that is not refused.
+  pub record LawForC : Type 0 where
+    -- its case has the list as built
+    pub as-built : asBuilt n (caseForC .list) (caseForC .count) ≡ true
+    -- it answers the record of least cost
+    pub least : LeastRecord caseForC (recordIn chosenForC) (chosenForC .cost)
+    -- what `depth_bench_pattern_of` answers for a record within the reach is its pattern
+    pub patterns : (r : Record) → Within caseForC r → patternAnswer n (r .kind) (r .entry) texture ≡ given (patternOf caseForC r)
+    -- the choice for the transposed block is not refused
+    pub accepted : transposedForC .refusal ≡ 0
+    -- where the runs decide, every record within the reach has exactly one partner, and both answers have the same cost
+    pub partners : endsDecide n neighbours ≡ true → (r : Record) → Within caseForC r → OnePartner caseForC r
+    pub costs : endsDecide n neighbours ≡ true → transposedForC .cost ≡ chosenForC .cost
+
+-- ---- the law
+
+-- Demand 3. Every case that a choice accepts has its one record of least cost, whatever its list and its neighbours; the rest is said of the
+-- cases that are covered.
 pub record DiagonalLaw : Type 0 where
   -- what `wedgelets` leaves in a lent list, with the count that it answers, is the list as built
-  pub built : (n : ℕ) (old : List ℕ) (count : ℕ) → listAnswer n old ≡ given count → AsBuilt n (listAfter n old) count
+  pub built : (n : ℕ) (old : List ℕ) (count : ℕ) → listAnswer n old ≡ given count → asBuilt n (listAfter n old) count ≡ true
   -- what `contour` answers for texture that is lent is the pattern of kind 1
   pub outlined :
       (C : Case) → chooseRefusal C ≡ 0 → (r : Record) → Within C r → r .kind ≡ 1 → contourAnswer (C .n) (C .texture) ≡ given (patternOf C r)
@@ -75,12 +120,15 @@ pub record DiagonalLaw : Type 0 where
   pub written :
       (C : Case) → chooseRefusal C ≡ 0 → (r : Record) → Within C r → (block : List ℕ) → length block ≡ C .n * C .n
       → predictBlock (C .n) (patternOf C r) (C .neighbours) (C .table) (r .off0) (r .off1) block ≡ predictionOf C r
+  -- no record within the reach costs less than the chosen one
+  pub least : (C : Case) → chooseRefusal C ≡ 0 → AnswersLeast C
   -- the transposed case is accepted too
   pub accepted : (C : Case) → chooseRefusal C ≡ 0 → chooseRefusal (transposedCase C) ≡ 0
   -- every record within the reach has exactly one partner
-  pub partners :
-      (C : Case) → chooseRefusal C ≡ 0 → AsBuilt (C .n) (C .list) (C .count) → EndsDecide (C .n) (C .neighbours)
-      → (r : Record) → Within C r → OnePartner C r
+  pub partners : (C : Case) → chooseRefusal C ≡ 0 → covered C ≡ true → (r : Record) → Within C r → OnePartner C r
   -- the two chosen costs are equal
-  pub costs :
-      (C : Case) → chooseRefusal C ≡ 0 → AsBuilt (C .n) (C .list) (C .count) → EndsDecide (C .n) (C .neighbours) → OneCost C
+  pub costs : (C : Case) → chooseRefusal C ≡ 0 → covered C ≡ true → OneCost C
+  -- and all of it for C
+  pub for-c :
+      (n : ℕ) (neighbours original table : List ℕ) (reach : ℕ) (texture : List ℕ)
+      → chosenForC n neighbours original table reach texture .refusal ≡ 0 → LawForC n neighbours original table reach texture

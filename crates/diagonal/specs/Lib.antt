@@ -1,2 +1,3 @@
 -- Document 01, "Choice": demand 3.
 pub mod Law
+pub mod Cases

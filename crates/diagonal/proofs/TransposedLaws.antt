@@ -1,41 +1,18 @@
--- The list as built, and the transposed case: it is accepted, and transposed twice it is the case again. Assumes nothing.
+-- The transposed case: it is accepted, and transposed twice it is the case again. Assumes nothing.
 use Prim.Native.Nat.{ℕ, _*_, _≤_, _<_}
-use mathlib.Core.Path.{_≡_, refl, sym, ap, ap₂, _∙_}
-use mathlib.Core.List.{List, [], _∷_, _++_}
+use mathlib.Core.Path.{_≡_, refl, sym, _∙_}
+use mathlib.Core.List.{List, [], _∷_}
 use mathlib.Core.Logic.{_⊎_, ⊎-elim}
 use native.Mathlib.Nat.{mul-le-mul}
 use native.Mathlib.Omega.{arith}
-use lib.ListN.{length, getD, take, drop}
-use lib.Seq.{getD-take, take-at}
-use Rattle.arith.specs.Checks.{given}
+use lib.ListN.{length}
 use Rattle.arith.specs.Square.{transposedList}
-use Rattle.arith.proofs.CheckLaws.{given-means, lent-given}
 use Rattle.arith.proofs.SquareLaws.{length-transposed, transposed-twice}
-use Rattle.wedgelet.specs.Wedgelet.{wedgeletList}
-use Rattle.wedgelet.specs.Answer.{listRefusal, listAnswer, listAfter}
 use Rattle.sides.proofs.TransposedLaws.{length-transposed-neighbours, neighbours-transposed-twice}
 use Rattle.choice_checks.specs.Case.{Case, caseOf}
 use Rattle.choice_checks.specs.Refusal.{chooseRefusal}
 use Rattle.choice_checks.proofs.AcceptLaws.{Accepted, accepted, accept}
-use Rattle.diagonal.specs.Law.{AsBuilt, transposedTexture, transposedCase}
-
--- ---- the list as built
-
--- what `wedgelets` leaves
-pub wedgelets-build : (n : ℕ) (old : List ℕ) (count : ℕ) → listAnswer n old ≡ given count → AsBuilt n (listAfter n old) count
-unfolding listAnswer listAfter
-wedgelets-build n old count e =
-    let k = given-means (listRefusal n (length old)) (length (wedgeletList n)) count e in
-    record {
-      counted = sym (k .1);
-      words =
-          ap₂ take (sym (k .1)) (sym (lent-given (listRefusal n (length old)) (wedgeletList n ++ drop (length (wedgeletList n)) old) old (k .0)))
-          ∙ take-at (wedgeletList n) (drop (length (wedgeletList n)) old) (length (wedgeletList n)) refl;
-    }
-
--- the entries are those of the wedgelet list
-pub built-at : {n count : ℕ} {list : List ℕ} → AsBuilt n list count → (i : ℕ) → i < count → getD list i 0 ≡ getD (wedgeletList n) i 0
-built-at {count = count} {list = list} b i h = sym (getD-take count list i 0 h) ∙ ap (λ (l : List ℕ). getD l i 0) (b .words)
+use Rattle.diagonal.specs.Law.{transposedTexture, transposedCase}
 
 -- ---- the texture
 
