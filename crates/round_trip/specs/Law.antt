@@ -1,6 +1,6 @@
 -- Document 01, "House file": what can be written reads back the same, and a file that is accepted is the one the writer makes of what was
 -- read. Both are said of what the calls `write` and `read` answer and leave, as their contracts have it. Assumes nothing.
-use Prim.Native.Nat.{ℕ, _≤_, _<_}
+use Prim.Native.Nat.{ℕ, _+_, _≤_, _<_}
 use mathlib.Core.Path.{_≡_}
 use mathlib.Core.List.{List, _++_}
 use mathlib.Core.Logic.{_⊎_}
@@ -8,8 +8,10 @@ use lib.ListN.{length, take, drop, replicate}
 use lib.Seq.{sets}
 use Rattle.arith.specs.Checks.{given}
 use Rattle.arith.specs.Lists.{listOf}
-use Rattle.sheet.specs.State.{stateOf, area, blocksOf}
-use Rattle.sheet.specs.Place.{materialOf}
+use Rattle.choice.specs.Record.{Record}
+use Rattle.sheet.specs.declared.Sheet.{Sheet}
+use Rattle.sheet.specs.State.{stateOf, after, area, blocksOf}
+use Rattle.sheet.specs.Place.{Material, materialOf, placeAnswer, placeAfter, placedInTurn}
 use Rattle.sheet_checks.specs.Checks.{recordsLent}
 use Rattle.record_file.specs.Text.{meant, recordAt}
 use Rattle.record_file.specs.Reading.{File, Aids, readFile}
@@ -53,11 +55,23 @@ pub record Enough (L : Lent) : Type 0 where
   pub samples : 16384 ≤ length (L .samples)
   pub records : 1024 ≤ lentRecords (L .records)
 
--- the samples that placing the written records in turn on an empty sheet gives, with the table and the texture
+-- the empty sheet of the written size, what the written records are placed with, and which they are
+abbrev pub emptyOf : Source → Sheet
+emptyOf W = stateOf (W .sheet .n) (W .sheet .width) (W .sheet .height) 0
+
+abbrev pub materialBy : Aids → Source → Material
+materialBy A W = materialOf (A .list) (A .count) (W .table) (A .texture)
+
+abbrev pub recordsOf : Source → ℕ → Record
+recordsOf W i = meant (W .record-at i)
+
+-- the samples after the first k of them are placed in turn, where s stood on the sheet before
+abbrev pub drawnTo : Aids → Source → List ℕ → ℕ → List ℕ
+drawnTo A W s k = placedInTurn (emptyOf W) (materialBy A W) (recordsOf W) s k
+
+-- the samples that placing all of them in turn on an empty sheet gives
 abbrev pub placedBy : Aids → Source → List ℕ
-placedBy A W =
-    drawnOn (stateOf (W .sheet .n) (W .sheet .width) (W .sheet .height) 0) (materialOf (A .list) (A .count) (W .table) (A .texture))
-    (λ i. meant (W .record-at i))
+placedBy A W = drawnOn (emptyOf W) (materialBy A W) (recordsOf W)
 
 -- the bytes s read back as W: no refusal, the state and the table; the records, and the samples; past them what was there
 pub record ReadsBack (W : Source) (A : Aids) (L : Lent) (s : List ℕ) : Type 0 where
@@ -66,6 +80,13 @@ pub record ReadsBack (W : Source) (A : Aids) (L : Lent) (s : List ℕ) : Type 0 
       ≡ record { refusal = 0; line = 0; sheet = W .sheet; values = length (W .table); table = sets (replicate 256 0) 0 (W .table) }
   pub records : recordsLeft A L s ≡ putRecords (L .records) (listOf (W .record-at) (blocksOf (W .sheet)))
   pub samples : samplesLeft A L s ≡ placedBy A W ++ drop (area (W .sheet)) (L .samples)
+  -- `place` accepts each record on its turn, and leaves the next samples
+  pub placed :
+      (old : List ℕ) → length old ≡ area (W .sheet) → (i : ℕ) → i < blocksOf (W .sheet)
+      → (placeAnswer (after i (emptyOf W)) (drawnTo A W old i) (materialBy A W) (recordsOf W i) ≡ given (after (i + 1) (emptyOf W)))
+      × (placeAfter (after i (emptyOf W)) (drawnTo A W old i) (materialBy A W) (recordsOf W i) ≡ drawnTo A W old (i + 1))
+  -- the last ones are the samples above, whatever stood on the sheet before
+  pub same : (old : List ℕ) → length old ≡ area (W .sheet) → drawnTo A W old (blocksOf (W .sheet)) ≡ placedBy A W
 
 -- Where `write` answers the length k, the first k bytes that it leaves read back as what was written, with the same list and count.
 abbrev pub WrittenReadsBack : Type 0
