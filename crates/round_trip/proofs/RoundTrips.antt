@@ -9,8 +9,11 @@ use Rattle.arith.specs.Checks.{given}
 use Rattle.arith.proofs.CheckLaws.{answer-given, lent-given, given-means}
 use Rattle.arith.proofs.ListLaws.{listOf-at}
 use Rattle.depth_table.proofs.TableLaws.{table-bytes}
-use Rattle.sheet.specs.State.{after, area, blocksOf}
-use Rattle.sheet.specs.Place.{placeRefusal, placeAnswer, placeAfter}
+use Rattle.choice.specs.Record.{Record}
+use Rattle.sheet.specs.declared.Sheet.{Sheet}
+use Rattle.sheet.specs.State.{after, area, blocksOf, finished}
+use Rattle.sheet.specs.Place.{placeRefusal, placeAnswer, placeAfter, placedInTurn}
+use Rattle.sheet.specs.Compose.{missing, Task, composeRefusal}
 use Rattle.sheet.proofs.InTurnLaws.{placed-in-turn}
 use Rattle.record_text.specs.declared.fields.RecordFields.{RecordFields}
 use Rattle.record_text.specs.Lines.{Lined, refusedAt, read}
@@ -24,9 +27,10 @@ use Rattle.record_file.proofs.RoundTrip.{heldBy, sheetOf, written-then-read, re
 use Rattle.record_lines.specs.Stored.{putRecords}
 use Rattle.record_read.specs.Back.{fileBack, recordIn, samplesBack}
 use Rattle.record_read.proofs.EmptyLaws.{empty-same}
-use Rattle.record_read.proofs.RestLaws.{record-back, lent-same, in-turn-ext, file-accepted}
-use Rattle.round_trip.specs.Law.{Lent, lentRecords, reading, TextureFits, Enough, emptyOf, materialBy, recordsOf, drawnTo, placedBy, ReadsBack, ReadWritesBack, RoundTrips}
+use Rattle.record_read.proofs.RestLaws.{record-back, lent-same, in-turn-none, in-turn-ext, file-accepted}
+use Rattle.round_trip.specs.Law.{Lent, lentRecords, reading, TextureFits, Enough, emptied, materialBy, recordsOf, drawnTo, placedBy, ReadsBack, ReadWritesBack, storedAt, samplesComposed, recordsComposed, aidsBy, WrittenAndRead, ComposedReadsBack, ComposedFrom, ContinuedReadsBack, RoundTrips}
 use Rattle.round_trip.proofs.LengthLaws.{text-fits}
+use Rattle.round_trip.proofs.ComposedSheet.{composed-means, ready, composed-room, each-accepted, composed-drawn, lengths, accepted-writes, accepted-fits}
 
 -- ---- what is written
 
@@ -81,7 +85,7 @@ module _
     samples-placed : samplesBack A (heldBy W) (L .samples) ≡ placedBy A W ++ drop (area (W .sheet)) (L .samples)
     unfolding samplesBack
     samples-placed =
-        let S = emptyOf W in
+        let S = emptied (W .sheet) in
         ap (λ (s : List ℕ). s ++ drop (area (W .sheet)) (L .samples))
         (in-turn-ext S (materialBy A W) (recordIn (heldBy W)) (recordsOf W) (replicate (area S) 0) (blocksOf S)
         (λ i h. ap meant (listOf-at (W .record-at) noRecord (blocksOf S) i h)))
@@ -89,14 +93,14 @@ module _
     -- `place` accepts each record on its turn
     placed-next :
         (s : List ℕ) → length s ≡ area (W .sheet) → (i : ℕ) → i < blocksOf (W .sheet)
-        → (placeAnswer (after i (emptyOf W)) (drawnTo A W s i) (materialBy A W) (recordsOf W i) ≡ given (after (i + 1) (emptyOf W)))
-        × (placeAfter (after i (emptyOf W)) (drawnTo A W s i) (materialBy A W) (recordsOf W i) ≡ drawnTo A W s (i + 1))
+        → (placeAnswer (after i (emptied (W .sheet))) (drawnTo A W s i) (materialBy A W) (recordsOf W i) ≡ given (after (i + 1) (emptied (W .sheet))))
+        × (placeAfter (after i (emptied (W .sheet))) (drawnTo A W s i) (materialBy A W) (recordsOf W i) ≡ drawnTo A W s (i + 1))
     placed-next s long i h =
         let F = heldBy W in
         let q = read-parts A (length (L .samples)) (lentRecords (L .records)) F file [] file-read in
-        let e : placeRefusal (after i (emptyOf W)) (area (W .sheet)) (materialBy A W) (recordsOf W i) ≡ 0 =
+        let e : placeRefusal (after i (emptied (W .sheet))) (area (W .sheet)) (materialBy A W) (recordsOf W i) ≡ 0 =
         rw (listOf-at (W .record-at) noRecord (blocksOf (W .sheet)) i h) at (file-accepted A F (q .1 .sound) (q .0 .inside) (q .0 .few) i h) in
-        placed-in-turn (emptyOf W) (materialBy A W) (recordsOf W) s i (rw long e)
+        placed-in-turn (emptied (W .sheet)) (materialBy A W) (recordsOf W) s i (rw long e)
 
     pub reads-back : ReadsBack W A L file
     reads-back =
@@ -169,6 +173,62 @@ read-writes A L s old none space =
     let r = was-read (reading A L s) (read-below A (length (L .samples)) (lentRecords (L .records)) s) none in
     rw (r .is) (writes-back A L (r .file) s (r .rest) old (r .is) (rw (r .is) at space))
 
--- Both round trips hold.
+-- ---- a composed sheet reads back
+
+continued : ContinuedReadsBack
+continued S F T C L k records first old at from answer enough space lent =
+    let means = composed-means S T C answer in
+    subst
+    (λ (X : Sheet).
+    blocksOf X ≤ records → spaceFor (length (T .material .table)) (blocksOf X) ≤ length old
+    → WrittenAndRead (sourceOf X (T .material .table) at) (aidsBy (T .material)) records old L (samplesComposed S T C))
+    (means .1) (go (means .0)) enough space
+  where
+    go :
+        composeRefusal S (length (C .samples)) T (lentRecords (C .records)) ≡ 0 → blocksOf S ≤ records
+        → spaceFor (length (T .material .table)) (blocksOf S) ≤ length old
+        → WrittenAndRead (sourceOf (finished S) (T .material .table) at) (aidsBy (T .material)) records old L (samplesComposed S T C)
+    go none enough space =
+        let M = T .material in
+        let W = sourceOf (finished S) (M .table) at in
+        let some : 0 < blocksOf S = omega (arith, ready S T C none .is-open .missing) in
+        let each = each-accepted S T C first at from none in
+        let written = text-answered W (M .list) (M .count) records old (accepted-writes S M first at some each records (length old) enough space) in
+        let back = reads-back W (aidsBy M) records (length (writtenText W)) old L written (accepted-fits S M first at some each) lent in
+        record {
+          size = length (writtenText W);
+          written = written;
+          back = back;
+          samples =
+              back .samples
+              ∙ ap (λ (s : List ℕ). s ++ drop (area S) (L .samples))
+              (sym (composed-drawn S T C first at from none ∙ back .same first (lengths S M first at some each .whole)));
+        }
+
+-- a sheet without a block is composed from its first block on
+new-sheet : (S : Sheet) (T : Task) (C : Lent) → S .placed ≡ 0 → ComposedFrom S T C (C .samples) (storedAt (recordsComposed S T C))
+new-sheet S T C e =
+    let f : ℕ → Record = λ j. meant (storedAt (recordsComposed S T C) j) in
+    record {
+      accepted = λ i h. absurd (omega (arith, e));
+      lent =
+          subst (λ (k : ℕ). C .samples ≡ placedInTurn (emptied S) (T .material) f (C .samples) k) (sym e)
+          (in-turn-none (emptied S) (T .material) f (C .samples));
+      composed = λ i h. let q : S .placed + i ≡ i = omega (arith, e) in ap (storedAt (recordsComposed S T C)) q;
+    }
+
+composed : ComposedReadsBack
+composed S F T C L k old e answer space lent =
+    let means = composed-means S T C answer in
+    continued S F T C L k (lentRecords (recordsComposed S T C)) (C .samples) old (storedAt (recordsComposed S T C)) (new-sheet S T C e) answer
+    (rw (← means .1) (omega (arith, e, composed-room S T C (means .0)))) space lent
+
+-- All round trips hold.
 pub round-trips : RoundTrips
-round-trips = record { written-reads-back = reads-back; read-writes-back = read-writes }
+round-trips =
+    record {
+      written-reads-back = reads-back;
+      read-writes-back = read-writes;
+      composed-reads-back = composed;
+      continued-reads-back = continued;
+    }
