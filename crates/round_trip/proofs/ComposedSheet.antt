@@ -7,7 +7,7 @@ use native.Mathlib.Decide.{decLt}
 use native.Mathlib.Nat.{zero-add, add-zero, add-suc}
 use native.Mathlib.Omega.{arith}
 use borrow.Author.Tests.{ltb-true}
-use lib.IntN.{ℤ, pos}
+use lib.IntN.{pos}
 use lib.ListN.{length, getD, drop, length-append, length-drop, List·getD-append}
 use Rattle.arith.specs.Checks.{given}
 use Rattle.arith.specs.Lists.{listOf}
@@ -16,7 +16,7 @@ use Rattle.arith.proofs.ListLaws.{length-listOf, listOf-at}
 use Rattle.pattern.specs.Answer.{textured}
 use Rattle.choice.specs.Record.{Record}
 use Rattle.sheet.specs.declared.Sheet.{Sheet}
-use Rattle.sheet.specs.State.{after, area, blocksOf, finished, lengthsOk, Lengths}
+use Rattle.sheet.specs.State.{after, blocksOf, finished, lengthsOk, Lengths}
 use Rattle.sheet.specs.Place.{Material, placeRefusal, placeAnswer, placedInTurn}
 use Rattle.sheet.specs.Compose.{missing, Task, composedTo, composedRecord, over, choiceRefusal, Ready, composeRefusal, composeAnswer, composeAfter, composeField}
 use Rattle.sheet.specs.Laws.{Composes}

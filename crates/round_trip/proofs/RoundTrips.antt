@@ -13,7 +13,7 @@ use Rattle.choice.specs.Record.{Record}
 use Rattle.sheet.specs.declared.Sheet.{Sheet}
 use Rattle.sheet.specs.State.{after, area, blocksOf, finished}
 use Rattle.sheet.specs.Place.{placeRefusal, placeAnswer, placeAfter, placedInTurn}
-use Rattle.sheet.specs.Compose.{missing, Task, composeRefusal}
+use Rattle.sheet.specs.Compose.{Task, composeRefusal}
 use Rattle.sheet.proofs.InTurnLaws.{placed-in-turn}
 use Rattle.record_text.specs.declared.fields.RecordFields.{RecordFields}
 use Rattle.record_text.specs.Lines.{Lined, refusedAt, read}
