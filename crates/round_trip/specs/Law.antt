@@ -25,7 +25,7 @@ use Rattle.record_lines.specs.Back.{recordsBack, leaving}
 use Rattle.record_read.specs.declared.reading.FileBack.{FileBack}
 use Rattle.record_read.specs.Back.{drawnOn, fileBack, samplesBack}
 
--- what is lent to reading: samples, and records as a slice for each field
+-- what is lent to reading or composing: samples, and records as a slice for each field
 pub record Lent : Type 0 where
   pub samples : List ℕ
   pub records : Slices
