@@ -7,7 +7,7 @@ use native.Mathlib.Nat.{le-trans, mul-le-mul}
 use native.Mathlib.Omega.{arith}
 use lib.IntN.{ℤ}
 use lib.ListN.{length, take, drop, replicate, length-replicate}
-use lib.Seq.{sets, sets-eq, length-sets, take-at}
+use lib.Seq.{sets, sets-eq, length-sets, take-at, length-take-le}
 use Rattle.sheet.specs.State.{after}
 use Rattle.sheet.specs.Place.{materialOf, placeRefusal, placedInTurn}
 use Rattle.sheet_checks.specs.Checks.{recordsLent}
@@ -21,7 +21,8 @@ use Rattle.record_lines.specs.declared.whole.LinesBack.{LinesBack}
 use Rattle.record_lines.specs.Stored.{Slices, putRecords}
 use Rattle.record_lines.specs.Back.{linesBack, linesSize, recordsBack, leaving}
 use Rattle.record_read.specs.declared.reading.FileBack.{FileBack}
-use Rattle.record_read.specs.Back.{emptySheet, materialIn, recordIn, samplesBack, fileBack, sheetOf, tableOf, backOf}
+use Rattle.record_read.specs.Back.{emptySheet, materialIn, recordIn, samplesIn, samplesBack, fileBack, sheetOf, tableOf, backOf}
+use Rattle.record_read.proofs.EmptyLaws.{empty-same}
 use Rattle.record_read.proofs.RestLaws.{record-back, lent-same, in-turn-ext, headerOf, file-accepted}
 
 -- ---- the lengths
@@ -50,16 +51,11 @@ fileIn (refusedAt n k) = fileOf 0 0 0 [] []
 fileIn (read F s) = F
 
 -- the samples of either
-none-drawn :
-    (A : Aids) (t : List ℕ) → let F = fileOf 0 0 0 [] [] in placedInTurn (emptySheet F) (materialIn A F) (recordIn F) (take (F .width * F .height) t) (blocksIn (headerOf F)) ++ drop (F .width * F .height) t ≡ t
-unfolding placedInTurn
-none-drawn A t = refl
-
-file-drawn :
-    (A : Aids) (F : File) (t : List ℕ)
-    → placedInTurn (emptySheet F) (materialIn A F) (recordIn F) (take (F .width * F .height) t) (blocksIn (headerOf F)) ++ drop (F .width * F .height) t ≡ samplesBack A F t
-unfolding samplesBack
-file-drawn A F t = refl
+samples-are :
+    (A : Aids) (x : Lined File) (t : List ℕ) → samplesIn A (fileIn x) ++ drop (fileIn x .width * fileIn x .height) t ≡ leaving x (λ F. samplesBack A F t) t
+unfolding placedInTurn samplesBack
+samples-are A (refusedAt n k) t = refl
+samples-are A (read F u) t = refl
 
 -- what holds of both
 record Drawable (A : Aids) (F : File) : Type 0 where
@@ -69,10 +65,23 @@ record Drawable (A : Aids) (F : File) : Type 0 where
   blocks : blocksIn (headerOf F) ≤ 1024
   whole : length (F .records) ≡ blocksIn (headerOf F)
   each : (i : ℕ) → i < blocksIn (headerOf F) → placeRefusal (after i (emptySheet F)) (F .width * F .height) (materialIn A F) (recordIn F i) ≡ 0
+  -- what stood in the first places before makes no difference
+  same :
+      (t : List ℕ) → F .width * F .height ≤ length t
+      → placedInTurn (emptySheet F) (materialIn A F) (recordIn F) (take (F .width * F .height) t) (blocksIn (headerOf F)) ≡ samplesIn A F
 
 drawable : (A : Aids) (s : List ℕ) (x : Lined File) → fileLines A s ≡ x → A .count ≤ length (A .list) → A .count ≤ 9999 → Drawable A (fileIn x)
+unfolding placedInTurn
 drawable A s (refusedAt n k) e inside few =
-    record { table = omega arith; width = omega arith; height = omega arith; blocks = omega arith; whole = refl; each = λ i l. absurd (omega (arith, l)) }
+    record {
+      table = omega arith;
+      width = omega arith;
+      height = omega arith;
+      blocks = omega arith;
+      whole = refl;
+      each = λ i l. absurd (omega (arith, l));
+      same = λ t l. refl;
+    }
 drawable A s (read F u) e inside few =
     let ok = file-wrote A F s u e .sound in
     let z = size-small (length (A .texture)) (headerOf F) (ok .size) in
@@ -83,6 +92,9 @@ drawable A s (read F u) e inside few =
       blocks = blocks-few (length (A .texture)) (headerOf F) (ok .size);
       whole = ok .whole;
       each = file-accepted A F ok inside few;
+      same = λ t l.
+          empty-same (F .n) (F .width) (F .height) (z .size) (z .sides) (materialIn A F) (recordIn F) (take (F .width * F .height) t)
+          (length-take-le (F .width * F .height) t l);
     }
 
 -- the first values of the array are the table
@@ -125,13 +137,16 @@ module _
         go (refusedAt n k) = refl
         go (read F u) = refl
 
+    -- the sheet has no more samples than have to be lent
+    area-few : fileIn x .width * fileIn x .height ≤ 16384
+    area-few = mul-le-mul {n₁ = fileIn x .width} {m₁ = fileIn x .height} {n₂ = 128} {m₂ = 128} (file .width) (file .height)
+
     -- the table and the samples have room
     pub fits : {samples : ℕ} → 16384 ≤ samples → (b .values ≤ length (b .table)) × (b .width * b .height ≤ samples) × (b .width ≤ 128) × (b .height ≤ 128)
     fits l =
         let F = fileIn x in
-        let area = mul-le-mul {n₁ = F .width} {m₁ = F .height} {n₂ = 128} {m₂ = 128} (file .width) (file .height) in
         let t : length (F .table) ≤ length (sets (replicate 256 0) 0 (F .table)) = omega (arith, length-sets (replicate 256 0) 0 (F .table), length-replicate {A = ℕ} 256 0, file .table) in
-        rw (width-is, height-is, values-is, array-is) (t, le-trans area l, file .width, file .height)
+        rw (width-is, height-is, values-is, array-is) (t, le-trans area-few l, file .width, file .height)
 
     pub blocks-fit : blocksIn (linesSize b) ≤ 1024
     blocks-fit = rw size-is (file .blocks)
@@ -176,17 +191,12 @@ module _
 
         -- the samples afterwards
         pub drawn :
-            (t : List ℕ) {new : List ℕ}
+            (t : List ℕ) → 16384 ≤ length t → {new : List ℕ}
             → new ≡ placedInTurn (sheetOf b) (materialOf (A .list) (A .count) (tableOf b) (A .texture)) (λ i. meant (recordAt k e a o i)) (take (b .width * b .height) t) (blocksIn (linesSize b)) ++ drop (b .width * b .height) t
             → new ≡ leaving x (λ F. samplesBack A F t) t
-        drawn t {new} q =
+        drawn t enough {new} q =
             q
             ∙ ap (λ (l : List ℕ). l ++ drop (b .width * b .height) t)
             (in-turn-ext (sheetOf b) (materialOf (A .list) (A .count) (tableOf b) (A .texture)) (λ i. meant (recordAt k e a o i)) (recordIn (fileIn x)) (take (b .width * b .height) t) (blocksIn (linesSize b)) record-is)
-            ∙ rw (table-is, n-is, width-is, height-is) (go x)
-          where
-            go : (x : Lined File)
-                → placedInTurn (emptySheet (fileIn x)) (materialIn A (fileIn x)) (recordIn (fileIn x)) (take (fileIn x .width * fileIn x .height) t) (blocksIn (headerOf (fileIn x))) ++ drop (fileIn x .width * fileIn x .height) t
-                ≡ leaving x (λ F. samplesBack A F t) t
-            go (refusedAt n k) = none-drawn A t
-            go (read F u) = file-drawn A F t
+            ∙ rw (table-is, n-is, width-is, height-is)
+            (ap (λ (l : List ℕ). l ++ drop (fileIn x .width * fileIn x .height) t) (file .same t (le-trans area-few enough)) ∙ samples-are A x t)

@@ -1,3 +1,4 @@
 -- Laws of reading.
+pub mod EmptyLaws
 pub mod RestLaws
 pub mod BackLaws

@@ -11,17 +11,16 @@ use lib.Dec.{eqb}
 use lib.IntN.{ℤ, pos}
 use lib.ListN.{length, getD, drop, List·getD-append}
 use lib.Seq.{sets, sets-eq, length-sets}
-use Rattle.arith.proofs.Bools.{both-of, either-of}
+use Rattle.arith.proofs.Bools.{either-of}
 use Rattle.arith.proofs.CheckLaws.{passed}
 use Rattle.pattern.specs.Size.{sizeOk}
 use Rattle.choice.specs.Record.{Record}
 use Rattle.sheet.specs.declared.Sheet.{Sheet}
-use Rattle.sheet_blocks.specs.Grid.{sideOk}
 use Rattle.sheet.specs.State.{after, blocksOf, sidesOk, lengthsOk, Lengths, Open}
 use Rattle.sheet.specs.Place.{Material, placeRefusal, placedSamples, placedInTurn}
 use Rattle.sheet_checks.specs.Checks.{recordsLent}
-use Rattle.sheet_checks.proofs.SideLaws.{side-bounds}
 use Rattle.sheet.proofs.StateLaws.{lengths-do, open-none}
+use Rattle.sheet.proofs.TurnLaws.{open-after}
 use Rattle.record_text.specs.declared.fields.SizeFields.{SizeFields}
 use Rattle.record_text.specs.declared.fields.RecordFields.{RecordFields}
 use Rattle.record_file.specs.Text.{noRecord, recordAt, sizeFieldsOf}
@@ -30,6 +29,7 @@ use Rattle.record_file.proofs.FileLaws.{FileSound, size-small}
 use Rattle.record_file.proofs.RoundTrip.{parts-table}
 use Rattle.record_lines.specs.Stored.{Slices, putRecords}
 use Rattle.record_read.specs.Back.{emptySheet, materialIn, recordIn}
+use Rattle.record_read.proofs.EmptyLaws.{open-empty}
 
 -- ---- stored records, one by one
 
@@ -112,17 +112,7 @@ module _ (A : Aids) (F : File) (ok : FileSound A F) where
   file-accepted inside few i l =
       let S = after i (emptySheet F) in
       let s = size-small (length (A .texture)) (headerOf F) (ok .size) in
-      let b = both-of (sideOk (F .n) (F .width)) (sideOk (F .n) (F .height)) (s .sides) in
-      let o : Open S = record {
-        size = s .size;
-        sides = s .sides;
-        low = s .low;
-        high = s .n;
-        wide = side-bounds (F .n) (F .width) (b .0) .0;
-        narrow = s .width;
-        short = s .height;
-        missing = omega arith;
-      } in
+      let o : Open S = open-after (emptySheet F) i {u = S} (open-empty (F .n) (F .width) (F .height) (s .size) (s .sides)) (omega arith) refl in
       let q : Lengths S (F .width * F .height) (length (A .list)) (A .count) (length (A .texture)) = record {
         whole = refl;
         optional = texture-fits;

@@ -27,11 +27,13 @@ recordIn F k = meant (getD (F .records) k noRecord)
 abbrev pub drawnOn : Sheet → Material → (ℕ → Record) → List ℕ
 drawnOn S M records = placedInTurn S M records (replicate (area S) 0) (blocksOf S)
 
--- the sheet's samples in the first places: those of placing the records in turn; past them nothing changes
+-- the samples that placing a file's records in turn on an empty sheet gives
+abbrev pub samplesIn : Aids → File → List ℕ
+samplesIn A F = drawnOn (emptySheet F) (materialIn A F) (recordIn F)
+
+-- the lent samples: the sheet's in the first places, whatever stood there; past them nothing changes
 unfoldable pub samplesBack : Aids → File → List ℕ → List ℕ
-samplesBack A F old =
-    placedInTurn (emptySheet F) (materialIn A F) (recordIn F) (take (F .width * F .height) old) (blocksOf (emptySheet F))
-    ++ drop (F .width * F .height) old
+samplesBack A F old = samplesIn A F ++ drop (F .width * F .height) old
 
 -- the answer: the number of a refusal and its line, or the finished state and the table, its values before zeros, with its count
 abbrev pub fileBack : Lined File → FileBack

@@ -185,8 +185,8 @@ fn told_back(lines: LinesBack) -> FileBack
     }
 }
 
-// Reads a file: its records, and the samples that placing them in turn gives, come into the lent slices, and the finished state and the
-// table are answered; or a refusal and its line, and nothing is altered.
+// Reads a file: its records, and the samples that placing them in turn on an empty sheet gives, come into the lent slices, and the
+// finished state and the table are answered; or a refusal and its line, and nothing is altered.
 pub fn read(
     bytes: &[u8],
     list: &[u64],

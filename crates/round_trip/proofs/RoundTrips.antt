@@ -1,26 +1,20 @@
 -- Both round trips, on what the calls answer and leave. Assumes nothing.
-use Prim.Native.Nat.{ℕ, zero, suc, _+_, _*_, _/_, _%_, _≤_, _<_}
+use Prim.Native.Nat.{ℕ, _+_, _≤_, _<_}
 use mathlib.Core.Path.{_≡_, refl, sym, _∙_, ap, subst}
-use mathlib.Core.Bool.{true}
 use mathlib.Core.List.{List, [], _++_}
-use native.Mathlib.Nat.{mul-le-mul, zero-mul, sub-zero, div-add-mod', mod-lt}
 use native.Mathlib.Omega.{arith}
 use lib.ListN.{length, getD, take, drop, replicate, length-replicate}
-use lib.Seq.{sets, sets-eq, take-at, length-take-le}
+use lib.Seq.{sets, sets-eq, take-at}
 use Rattle.arith.specs.Checks.{given}
-use Rattle.arith.proofs.Bools.{both-of}
 use Rattle.arith.proofs.CheckLaws.{answer-given, lent-given, given-means}
 use Rattle.arith.proofs.ListLaws.{listOf-at}
 use Rattle.depth_table.proofs.TableLaws.{table-bytes}
-use Rattle.pattern.specs.Size.{sizeOk}
-use Rattle.pattern.proofs.SizeLaws.{size-bounds}
 use Rattle.choice.specs.Record.{Record}
 use Rattle.sheet.specs.declared.Sheet.{Sheet}
-use Rattle.sheet_blocks.specs.Grid.{sideOk}
-use Rattle.sheet.specs.State.{stateOf, area, blocksOf, sidesOk, Open}
-use Rattle.sheet.specs.Place.{placedInTurn}
-use Rattle.sheet_checks.proofs.SideLaws.{side-bounds}
-use Rattle.sheet.proofs.InTurnLaws.{whole-same}
+use Rattle.sheet.specs.State.{after, area, blocksOf, finished}
+use Rattle.sheet.specs.Place.{placeRefusal, placeAnswer, placeAfter, placedInTurn}
+use Rattle.sheet.specs.Compose.{Task, composeRefusal}
+use Rattle.sheet.proofs.InTurnLaws.{placed-in-turn}
 use Rattle.record_text.specs.declared.fields.RecordFields.{RecordFields}
 use Rattle.record_text.specs.Lines.{Lined, refusedAt, read}
 use Rattle.record_file.specs.Text.{meant, noRecord, recordAt}
@@ -31,10 +25,12 @@ use Rattle.record_file.proofs.LineBounds.{Below, lineEnd, blocks-few, read-belo
 use Rattle.record_file.proofs.RefusalLaws.{accepted-parts, accepted-head, accepted-small}
 use Rattle.record_file.proofs.RoundTrip.{heldBy, sheetOf, written-then-read, read-then-text, read-then-written, read-parts}
 use Rattle.record_lines.specs.Stored.{putRecords}
-use Rattle.record_read.specs.Back.{fileBack, emptySheet, materialIn, recordIn, samplesBack}
-use Rattle.record_read.proofs.RestLaws.{record-back, lent-same, in-turn-ext}
-use Rattle.round_trip.specs.Law.{Lent, lentRecords, reading, TextureFits, Enough, placedBy, ReadsBack, ReadWritesBack, RoundTrips}
-use Rattle.round_trip.proofs.LengthLaws.{area-lent, text-fits}
+use Rattle.record_read.specs.Back.{fileBack, recordIn, samplesBack}
+use Rattle.record_read.proofs.EmptyLaws.{empty-same}
+use Rattle.record_read.proofs.RestLaws.{record-back, lent-same, in-turn-none, in-turn-ext, file-accepted}
+use Rattle.round_trip.specs.Law.{Lent, lentRecords, reading, TextureFits, Enough, emptied, materialBy, recordsOf, drawnTo, placedBy, ReadsBack, ReadWritesBack, storedAt, samplesComposed, recordsComposed, aidsBy, WrittenAndRead, ComposedReadsBack, ComposedFrom, ContinuedReadsBack, RoundTrips}
+use Rattle.round_trip.proofs.LengthLaws.{text-fits}
+use Rattle.round_trip.proofs.ComposedSheet.{composed-means, ready, composed-room, each-accepted, composed-drawn, lengths, accepted-writes, accepted-fits}
 
 -- ---- what is written
 
@@ -61,33 +57,6 @@ module _ (W : Source) (list : List ℕ) (count records : ℕ) (old : List ℕ) (
   unfolding writeAnswer
   text-answered = sym (answer-given (writeRefusal W list count records (length old)) (length (writtenText W)) accepted)
 
--- ---- an empty sheet has a block to place
-
-some-of : (n w : ℕ) → 1 ≤ n → n ≤ w → 1 ≤ w / n
-some-of n w h l = go (w / n) refl
-  where
-    go : (q : ℕ) → w / n ≡ q → 1 ≤ q
-    go zero e = absurd (let d : 0 * n + w % n ≡ w = rw e at (div-add-mod' w n) in omega (arith, d, zero-mul n, mod-lt w h))
-    go (suc q) e = omega arith
-
-open-empty : (S : Sheet) → sizeOk (S .n) ≡ true → sidesOk S ≡ true → Open (stateOf (S .n) (S .width) (S .height) 0)
-open-empty S size sides =
-    let n = size-bounds (S .n) size in
-    let b = both-of (sideOk (S .n) (S .width)) (sideOk (S .n) (S .height)) sides in
-    let w = side-bounds (S .n) (S .width) (b .0) in
-    let h = side-bounds (S .n) (S .height) (b .1) in
-    record {
-      size = size;
-      sides = sides;
-      low = n .0;
-      high = n .1;
-      wide = w .0;
-      narrow = w .1;
-      short = h .1;
-      missing = mul-le-mul {n₁ = 1} {m₁ = 1} {n₂ = S .width / S .n} {m₂ = S .height / S .n}
-          (some-of (S .n) (S .width) (omega (arith, n .0)) (w .0)) (some-of (S .n) (S .height) (omega (arith, n .0)) (h .0));
-    }
-
 -- ---- what is written reads back
 
 module _
@@ -112,22 +81,26 @@ module _
         ∙ written-then-read W (A .list) (A .count) records (length old) (answer-parts .0) (A .texture) (fits .size) (fits .lent)
         (length (L .samples)) (lentRecords (L .records)) (enough .samples) (enough .records)
 
-    -- the samples do not depend on what stood there before
+    -- the samples of the file are those of the written records
     samples-placed : samplesBack A (heldBy W) (L .samples) ≡ placedBy A W ++ drop (area (W .sheet)) (L .samples)
     unfolding samplesBack
     samples-placed =
-        let p = accepted-parts W (A .list) (A .count) records (length old) (answer-parts .0) in
-        let F = heldBy W in
-        let S = emptySheet F in
-        let f : ℕ → Record = λ i. meant (W .record-at i) in
-        let o = open-empty (W .sheet) (p .size) (p .sides) in
-        let first : List ℕ = take (area (W .sheet)) (L .samples) in
-        let zeros : List ℕ = replicate (area (W .sheet)) 0 in
-        let long : length first ≡ area (W .sheet) = length-take-le (area (W .sheet)) (L .samples) (omega (arith, enough .samples, area-lent (W .sheet .width) (W .sheet .height) (o .narrow) (o .short))) in
+        let S = emptied (W .sheet) in
         ap (λ (s : List ℕ). s ++ drop (area (W .sheet)) (L .samples))
-        (in-turn-ext S (materialIn A F) (recordIn F) f first (blocksOf S) (λ i h. ap meant (listOf-at (W .record-at) noRecord (blocksOf S) i h))
-        ∙ subst (λ (m : ℕ). placedInTurn S (materialIn A F) f first m ≡ placedInTurn S (materialIn A F) f zeros m) (sub-zero (blocksOf S))
-        (whole-same S (materialIn A F) f first zeros o long (length-replicate {A = ℕ} (area (W .sheet)) 0) (λ j l b. absurd (omega arith))))
+        (in-turn-ext S (materialBy A W) (recordIn (heldBy W)) (recordsOf W) (replicate (area S) 0) (blocksOf S)
+        (λ i h. ap meant (listOf-at (W .record-at) noRecord (blocksOf S) i h)))
+
+    -- `place` accepts each record on its turn
+    placed-next :
+        (s : List ℕ) → length s ≡ area (W .sheet) → (i : ℕ) → i < blocksOf (W .sheet)
+        → (placeAnswer (after i (emptied (W .sheet))) (drawnTo A W s i) (materialBy A W) (recordsOf W i) ≡ given (after (i + 1) (emptied (W .sheet))))
+        × (placeAfter (after i (emptied (W .sheet))) (drawnTo A W s i) (materialBy A W) (recordsOf W i) ≡ drawnTo A W s (i + 1))
+    placed-next s long i h =
+        let F = heldBy W in
+        let q = read-parts A (length (L .samples)) (lentRecords (L .records)) F file [] file-read in
+        let e : placeRefusal (after i (emptied (W .sheet))) (area (W .sheet)) (materialBy A W) (recordsOf W i) ≡ 0 =
+        rw (listOf-at (W .record-at) noRecord (blocksOf (W .sheet)) i h) at (file-accepted A F (q .1 .sound) (q .0 .inside) (q .0 .few) i h) in
+        placed-in-turn (emptied (W .sheet)) (materialBy A W) (recordsOf W) s i (rw long e)
 
     pub reads-back : ReadsBack W A L file
     reads-back =
@@ -136,6 +109,8 @@ module _
           answer = ap fileBack file-read ∙ rw (p .done) refl;
           records = rw file-read refl;
           samples = rw file-read samples-placed;
+          placed = placed-next;
+          same = empty-same (W .sheet .n) (W .sheet .width) (W .sheet .height) (p .size) (p .sides) (materialBy A W) (recordsOf W);
         }
 
 -- ---- what is accepted is what is written of it
@@ -198,6 +173,62 @@ read-writes A L s old none space =
     let r = was-read (reading A L s) (read-below A (length (L .samples)) (lentRecords (L .records)) s) none in
     rw (r .is) (writes-back A L (r .file) s (r .rest) old (r .is) (rw (r .is) at space))
 
--- Both round trips hold.
+-- ---- a composed sheet reads back
+
+continued : ContinuedReadsBack
+continued S F T C L k records first old at from answer enough space lent =
+    let means = composed-means S T C answer in
+    subst
+    (λ (X : Sheet).
+    blocksOf X ≤ records → spaceFor (length (T .material .table)) (blocksOf X) ≤ length old
+    → WrittenAndRead (sourceOf X (T .material .table) at) (aidsBy (T .material)) records old L (samplesComposed S T C))
+    (means .1) (go (means .0)) enough space
+  where
+    go :
+        composeRefusal S (length (C .samples)) T (lentRecords (C .records)) ≡ 0 → blocksOf S ≤ records
+        → spaceFor (length (T .material .table)) (blocksOf S) ≤ length old
+        → WrittenAndRead (sourceOf (finished S) (T .material .table) at) (aidsBy (T .material)) records old L (samplesComposed S T C)
+    go none enough space =
+        let M = T .material in
+        let W = sourceOf (finished S) (M .table) at in
+        let some : 0 < blocksOf S = omega (arith, ready S T C none .is-open .missing) in
+        let each = each-accepted S T C first at from none in
+        let written = text-answered W (M .list) (M .count) records old (accepted-writes S M first at some each records (length old) enough space) in
+        let back = reads-back W (aidsBy M) records (length (writtenText W)) old L written (accepted-fits S M first at some each) lent in
+        record {
+          size = length (writtenText W);
+          written = written;
+          back = back;
+          samples =
+              back .samples
+              ∙ ap (λ (s : List ℕ). s ++ drop (area S) (L .samples))
+              (sym (composed-drawn S T C first at from none ∙ back .same first (lengths S M first at some each .whole)));
+        }
+
+-- a sheet without a block is composed from its first block on
+new-sheet : (S : Sheet) (T : Task) (C : Lent) → S .placed ≡ 0 → ComposedFrom S T C (C .samples) (storedAt (recordsComposed S T C))
+new-sheet S T C e =
+    let f : ℕ → Record = λ j. meant (storedAt (recordsComposed S T C) j) in
+    record {
+      accepted = λ i h. absurd (omega (arith, e));
+      lent =
+          subst (λ (k : ℕ). C .samples ≡ placedInTurn (emptied S) (T .material) f (C .samples) k) (sym e)
+          (in-turn-none (emptied S) (T .material) f (C .samples));
+      composed = λ i h. let q : S .placed + i ≡ i = omega (arith, e) in ap (storedAt (recordsComposed S T C)) q;
+    }
+
+composed : ComposedReadsBack
+composed S F T C L k old e answer space lent =
+    let means = composed-means S T C answer in
+    continued S F T C L k (lentRecords (recordsComposed S T C)) (C .samples) old (storedAt (recordsComposed S T C)) (new-sheet S T C e) answer
+    (rw (← means .1) (omega (arith, e, composed-room S T C (means .0)))) space lent
+
+-- All round trips hold.
 pub round-trips : RoundTrips
-round-trips = record { written-reads-back = reads-back; read-writes-back = read-writes }
+round-trips =
+    record {
+      written-reads-back = reads-back;
+      read-writes-back = read-writes;
+      composed-reads-back = composed;
+      continued-reads-back = continued;
+    }

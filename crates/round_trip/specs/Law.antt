@@ -1,32 +1,41 @@
--- Document 01, "House file": what can be written reads back the same, and a file that is accepted is the one the writer makes of what was
--- read. Both are said of what the calls `write` and `read` answer and leave, as their contracts have it. Assumes nothing.
-use Prim.Native.Nat.{ℕ, _≤_, _<_}
+-- Document 01, "House file": what can be written reads back the same, a file that is accepted is the one the writer makes of what was read,
+-- and a composed sheet that is written and read is the composed sheet again. All are said of what the calls `write`, `read`, `place` and
+-- `compose` answer and leave, as their contracts have it. Assumes nothing.
+use Prim.Native.Nat.{ℕ, _+_, _≤_, _<_}
 use mathlib.Core.Path.{_≡_}
 use mathlib.Core.List.{List, _++_}
 use mathlib.Core.Logic.{_⊎_}
 use lib.ListN.{length, take, drop, replicate}
 use lib.Seq.{sets}
-use Rattle.arith.specs.Checks.{given}
+use Rattle.arith.specs.Checks.{Answer, given}
 use Rattle.arith.specs.Lists.{listOf}
-use Rattle.sheet.specs.State.{stateOf, area, blocksOf}
-use Rattle.sheet.specs.Place.{materialOf}
+use Rattle.choice.specs.Record.{Record}
+use Rattle.sheet.specs.declared.Sheet.{Sheet}
+use Rattle.sheet.specs.State.{stateOf, after, area, blocksOf}
+use Rattle.sheet.specs.Place.{Material, materialOf, placeAnswer, placeAfter, placedInTurn}
+use Rattle.sheet.specs.Compose.{missing, Task, composeAnswer, composeAfter, composeField}
 use Rattle.sheet_checks.specs.Checks.{recordsLent}
 use Rattle.record_file.specs.Text.{meant, recordAt}
-use Rattle.record_file.specs.Reading.{File, Aids, readFile}
+use Rattle.record_file.specs.Reading.{File, Aids, aidsOf, readFile}
 use Rattle.record_file.specs.Writing.{Source, sourceOf, spaceFor, writeAnswer, writeAfter}
+use Rattle.record_text.specs.declared.fields.RecordFields.{RecordFields}
 use Rattle.record_text.specs.Lines.{Lined}
 use Rattle.record_lines.specs.Stored.{Slices, putRecords}
 use Rattle.record_lines.specs.Back.{recordsBack, leaving}
 use Rattle.record_read.specs.declared.reading.FileBack.{FileBack}
 use Rattle.record_read.specs.Back.{drawnOn, fileBack, samplesBack}
 
--- what is lent to reading: samples, and records as a slice for each field
+-- what is lent to reading or composing: samples, and records as a slice for each field
 pub record Lent : Type 0 where
   pub samples : List ℕ
   pub records : Slices
 
 abbrev pub lentRecords : Slices → ℕ
 lentRecords x = recordsLent (length (x .0)) (length (x .1 .0)) (length (x .1 .1 .0)) (length (x .1 .1 .1))
+
+-- the record that stands at each place of the slices
+abbrev pub storedAt : Slices → ℕ → RecordFields
+storedAt x = recordAt (x .0) (x .1 .0) (x .1 .1 .0) (x .1 .1 .1)
 
 -- what `read` makes of the bytes s, answers, and leaves
 abbrev pub reading : Aids → Lent → List ℕ → Lined File
@@ -53,11 +62,23 @@ pub record Enough (L : Lent) : Type 0 where
   pub samples : 16384 ≤ length (L .samples)
   pub records : 1024 ≤ lentRecords (L .records)
 
--- the samples that placing the written records in turn on an empty sheet gives, with the table and the texture
+-- the empty sheet of the same size, what the written records are placed with, and which they are
+abbrev pub emptied : Sheet → Sheet
+emptied S = stateOf (S .n) (S .width) (S .height) 0
+
+abbrev pub materialBy : Aids → Source → Material
+materialBy A W = materialOf (A .list) (A .count) (W .table) (A .texture)
+
+abbrev pub recordsOf : Source → ℕ → Record
+recordsOf W i = meant (W .record-at i)
+
+-- the samples after the first k of them are placed in turn, where s stood on the sheet before
+abbrev pub drawnTo : Aids → Source → List ℕ → ℕ → List ℕ
+drawnTo A W s k = placedInTurn (emptied (W .sheet)) (materialBy A W) (recordsOf W) s k
+
+-- the samples that placing all of them in turn on an empty sheet gives
 abbrev pub placedBy : Aids → Source → List ℕ
-placedBy A W =
-    drawnOn (stateOf (W .sheet .n) (W .sheet .width) (W .sheet .height) 0) (materialOf (A .list) (A .count) (W .table) (A .texture))
-    (λ i. meant (W .record-at i))
+placedBy A W = drawnOn (emptied (W .sheet)) (materialBy A W) (recordsOf W)
 
 -- the bytes s read back as W: no refusal, the state and the table; the records, and the samples; past them what was there
 pub record ReadsBack (W : Source) (A : Aids) (L : Lent) (s : List ℕ) : Type 0 where
@@ -66,6 +87,14 @@ pub record ReadsBack (W : Source) (A : Aids) (L : Lent) (s : List ℕ) : Type 0 
       ≡ record { refusal = 0; line = 0; sheet = W .sheet; values = length (W .table); table = sets (replicate 256 0) 0 (W .table) }
   pub records : recordsLeft A L s ≡ putRecords (L .records) (listOf (W .record-at) (blocksOf (W .sheet)))
   pub samples : samplesLeft A L s ≡ placedBy A W ++ drop (area (W .sheet)) (L .samples)
+  -- `place` accepts each record on its turn, and leaves the next samples
+  pub placed :
+      (old : List ℕ) → length old ≡ area (W .sheet) → (i : ℕ) → i < blocksOf (W .sheet)
+      → let S = emptied (W .sheet) in
+      (placeAnswer (after i S) (drawnTo A W old i) (materialBy A W) (recordsOf W i) ≡ given (after (i + 1) S))
+      × (placeAfter (after i S) (drawnTo A W old i) (materialBy A W) (recordsOf W i) ≡ drawnTo A W old (i + 1))
+  -- the last ones are the samples above, whatever stood on the sheet before
+  pub same : (old : List ℕ) → length old ≡ area (W .sheet) → drawnTo A W old (blocksOf (W .sheet)) ≡ placedBy A W
 
 -- Where `write` answers the length k, the first k bytes that it leaves read back as what was written, with the same list and count.
 abbrev pub WrittenReadsBack : Type 0
@@ -80,8 +109,7 @@ WrittenReadsBack =
 abbrev pub readSource : Aids → Lent → List ℕ → Source
 readSource A L s =
     let back = answered A L s in
-    let left = recordsLeft A L s in
-    sourceOf (back .sheet) (take (back .values) (back .table)) (recordAt (left .0) (left .1 .0) (left .1 .1 .0) (left .1 .1 .1))
+    sourceOf (back .sheet) (take (back .values) (back .table)) (storedAt (recordsLeft A L s))
 
 -- Where `read` refuses nothing, `write` makes of what was read the same bytes: it answers their length, and past them nothing changes.
 abbrev pub ReadWritesBack : Type 0
@@ -92,7 +120,73 @@ ReadWritesBack =
     → (writeAnswer (readSource A L s) (A .list) (A .count) (lentRecords (recordsLeft A L s)) (length old) ≡ given (length s))
     × (writeAfter (readSource A L s) (A .list) (A .count) (lentRecords (recordsLeft A L s)) old ≡ s ++ drop (length s) old)
 
--- both, for every list, count, table, records and texture
+-- ---- a composed sheet reads back
+
+-- what `compose` answers, and the samples and records that it leaves of what is lent to it
+abbrev pub composing : Sheet → Task → Lent → Answer (Sheet × ℕ)
+composing S T C = composeAnswer S (C .samples) T (lentRecords (C .records))
+
+abbrev pub samplesComposed : Sheet → Task → Lent → List ℕ
+samplesComposed S T C = composeAfter S (C .samples) T (lentRecords (C .records))
+
+abbrev pub fieldComposed : {A : Type 0} → (Record → A) → Sheet → Task → Lent → List A → List A
+fieldComposed field S T C old = composeField field S (C .samples) T (lentRecords (C .records)) old
+
+abbrev pub recordsComposed : Sheet → Task → Lent → Slices
+recordsComposed S T C = (
+  fieldComposed (λ r. r .kind) S T C (C .records .0),
+  (
+    fieldComposed (λ r. r .entry) S T C (C .records .1 .0),
+    (
+      fieldComposed (λ r. r .off0) S T C (C .records .1 .1 .0),
+      fieldComposed (λ r. r .off1) S T C (C .records .1 .1 .1),
+    ),
+  ),
+)
+
+-- the list, count and texture that a sheet is composed with
+abbrev pub aidsBy : Material → Aids
+aidsBy M = aidsOf (M .list) (M .count) (M .texture)
+
+-- `write` takes W and answers a length; as many bytes of what it leaves read back as W, and the samples are those that were composed
+pub record WrittenAndRead (W : Source) (A : Aids) (records : ℕ) (old : List ℕ) (L : Lent) (composed : List ℕ) : Type 0 where
+  pub size : ℕ
+  pub written : writeAnswer W (A .list) (A .count) records (length old) ≡ given size
+  pub back : ReadsBack W A L (take size (writeAfter W (A .list) (A .count) records old))
+  pub samples :
+      samplesLeft A L (take size (writeAfter W (A .list) (A .count) records old)) ≡ composed ++ drop (area (W .sheet)) (L .samples)
+
+-- Where `compose` takes a new sheet, with no block placed, and answers the finished state F, `write` takes F, the table and the composed
+-- records, if space enough is lent; `read`, with the list, count and texture of composing, gives them back, and the composed samples.
+abbrev pub ComposedReadsBack : Type 0
+ComposedReadsBack =
+    (S F : Sheet) (T : Task) (C L : Lent) (k : ℕ) (old : List ℕ)
+    → S .placed ≡ 0 → composing S T C ≡ given (F, k)
+    → spaceFor (length (T .material .table)) (blocksOf F) ≤ length old → Enough L
+    → let left = recordsComposed S T C in
+    WrittenAndRead (sourceOf F (T .material .table) (storedAt left)) (aidsBy (T .material)) (lentRecords left) old L (samplesComposed S T C)
+
+-- the records `at` of a sheet that is composed from the state S on: `place` accepted the first of them in turn on an empty sheet, where the
+-- samples `old` stood before, and left the samples that are lent to composing; the others are those that `compose` leaves
+pub record ComposedFrom (S : Sheet) (T : Task) (C : Lent) (old : List ℕ) (at : ℕ → RecordFields) : Type 0 where
+  pub accepted :
+      (i : ℕ) → i < S .placed
+      → placeAnswer (after i (emptied S)) (placedInTurn (emptied S) (T .material) (λ j. meant (at j)) old i) (T .material) (meant (at i))
+      ≡ given (after (i + 1) (emptied S))
+  pub lent : C .samples ≡ placedInTurn (emptied S) (T .material) (λ j. meant (at j)) old (S .placed)
+  pub composed : (i : ℕ) → i < missing S → at (S .placed + i) ≡ storedAt (recordsComposed S T C) i
+
+-- The same of a sheet on which records were placed before: they come first in the file. `records` is how many are lent to `write`.
+abbrev pub ContinuedReadsBack : Type 0
+ContinuedReadsBack =
+    (S F : Sheet) (T : Task) (C L : Lent) (k records : ℕ) (first old : List ℕ) (at : ℕ → RecordFields)
+    → ComposedFrom S T C first at → composing S T C ≡ given (F, k)
+    → blocksOf F ≤ records → spaceFor (length (T .material .table)) (blocksOf F) ≤ length old → Enough L
+    → WrittenAndRead (sourceOf F (T .material .table) at) (aidsBy (T .material)) records old L (samplesComposed S T C)
+
+-- all of them, for every list, count, table, records and texture
 pub record RoundTrips : Type 0 where
   pub written-reads-back : WrittenReadsBack
   pub read-writes-back : ReadWritesBack
+  pub composed-reads-back : ComposedReadsBack
+  pub continued-reads-back : ContinuedReadsBack

@@ -1,2 +1,3 @@
--- Document 01, "House file": the two round trips.
+-- Document 01, "House file": the round trips.
 pub mod Law
+pub mod Examples

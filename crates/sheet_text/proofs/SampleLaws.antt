@@ -28,10 +28,10 @@ use Rattle.record_text.specs.Lines.{Lined, refusedAt, read}
 use Rattle.sheet_print.proofs.PrintLaws.{refusal-short, sheet-short}
 use Rattle.record_file.specs.Text.{sizeFieldsOf}
 use Rattle.record_file.specs.Reading.{File, Aids, readFile}
-use Rattle.record_read.specs.Back.{emptySheet, materialIn, recordIn}
+use Rattle.record_read.specs.Back.{emptySheet, materialIn, recordIn, samplesIn}
 use Rattle.record_file.proofs.FileLaws.{size-small}
 use Rattle.record_file.proofs.RoundTrip.{read-parts, parts-table}
-use Rattle.sheet_text.specs.Showing.{samplesIn, textBy, showSpace}
+use Rattle.sheet_text.specs.Showing.{textBy, showSpace}
 
 -- every sample is a byte
 abbrev pub Bytes : List ℕ → Type 0

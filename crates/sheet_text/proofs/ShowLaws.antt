@@ -1,7 +1,7 @@
 -- What is shown, from what reading answers and leaves. Assumes nothing.
-use Prim.Native.Nat.{ℕ, zero, suc, _+_, _*_, _≤_, _<_}
+use Prim.Native.Nat.{ℕ, _*_, _≤_, _<_}
 use mathlib.Core.Path.{_≡_, refl, sym, _∙_, ap, subst}
-use mathlib.Core.List.{List, _∷_, _++_}
+use mathlib.Core.List.{List, _++_}
 use native.Mathlib.Omega.{arith}
 use borrow.Author.Tests.{le-leb, lt-leb}
 use lib.IntN.{ℤ}
@@ -10,7 +10,6 @@ use lib.Seq.{take-at}
 use Rattle.arith.specs.Checks.{refused, given}
 use Rattle.arith.proofs.CheckLaws.{given-means}
 use Rattle.sheet.specs.State.{area, blocksOf}
-use Rattle.sheet.specs.Place.{placedInTurn}
 use Rattle.sheet_checks.specs.Checks.{recordsLent}
 use Rattle.sheet.proofs.InTurnLaws.{length-in-turn}
 use Rattle.record_field.specs.Numeral.{numeralEnd}
@@ -22,8 +21,8 @@ use Rattle.sheet_print.proofs.PrintLaws.{sheet-same}
 use Rattle.record_read.specs.declared.reading.FileBack.{FileBack}
 use Rattle.record_file.specs.Reading.{File, Aids, readFile}
 use Rattle.record_lines.specs.Back.{leaving}
-use Rattle.record_read.specs.Back.{emptySheet, materialIn, recordIn, samplesBack, fileBack}
-use Rattle.sheet_text.specs.Showing.{sizeIn, aidsFor, samplesIn, textBy, readWith, shownText, showSpace, showRefusal, showAnswer, showAfter}
+use Rattle.record_read.specs.Back.{emptySheet, materialIn, recordIn, samplesIn, samplesBack, fileBack}
+use Rattle.sheet_text.specs.Showing.{sizeIn, aidsFor, textBy, readWith, shownText, showSpace, showRefusal, showAnswer, showAfter}
 use Rattle.record_file.proofs.LineBounds.{Below, lineEnd, read-below}
 use Rattle.sheet_text.proofs.SampleLaws.{file-fits, text-short}
 
@@ -54,54 +53,41 @@ pub record SheetBack (A : Aids) (x : Lined File) (r : FileBack) (samples : List 
   pub held : r .sheet .width * r .sheet .height ≤ length samples
   pub same : sheetText (r .sheet .width) (r .sheet .height) samples ≡ textBy A x
 
--- the first of many zeros
-pub take-zeros : (m k : ℕ) → k ≤ m → take {A = ℕ} k (replicate m 0) ≡ replicate k 0
-take-zeros m zero h = refl
-take-zeros zero (suc k) h = absurd (omega arith)
-take-zeros (suc m) (suc k) h = ap (λ (l : List ℕ). 0 ∷ l) (take-zeros m k (omega arith))
-
 -- the samples in the first places are those of the sheet
-module _ (A : Aids) (F : File) (zeros : List ℕ) (empty : take (area (emptySheet F)) zeros ≡ replicate (area (emptySheet F)) 0) where
-  abbrev drawn : List ℕ
-  drawn = placedInTurn (emptySheet F) (materialIn A F) (recordIn F) (take (area (emptySheet F)) zeros) (blocksOf (emptySheet F))
-
-  drawn-length : length drawn ≡ area (emptySheet F)
+module _ (A : Aids) (F : File) (old : List ℕ) where
+  drawn-length : length (samplesIn A F) ≡ area (emptySheet F)
   drawn-length =
-      length-in-turn (emptySheet F) (materialIn A F) (recordIn F) (take (area (emptySheet F)) zeros) (blocksOf (emptySheet F))
-      ∙ ap length empty
+      length-in-turn (emptySheet F) (materialIn A F) (recordIn F) (replicate (area (emptySheet F)) 0) (blocksOf (emptySheet F))
       ∙ length-replicate (area (emptySheet F)) 0
 
-  drawn-held : F .width * F .height ≤ length (samplesBack A F zeros)
+  drawn-held : F .width * F .height ≤ length (samplesBack A F old)
   unfolding samplesBack
-  drawn-held = omega (arith, drawn-length, length-append drawn (drop (F .width * F .height) zeros))
+  drawn-held = omega (arith, drawn-length, length-append (samplesIn A F) (drop (F .width * F .height) old))
 
-  drawn-at : (i : ℕ) → i < F .width * F .height → getD (samplesBack A F zeros) i 0 ≡ getD (samplesIn A F) i 0
+  drawn-at : (i : ℕ) → i < F .width * F .height → getD (samplesBack A F old) i 0 ≡ getD (samplesIn A F) i 0
   unfolding samplesBack
-  drawn-at i h =
-      List·getD-append drawn (drop (F .width * F .height) zeros) 0 i (omega (arith, drawn-length))
-      ∙ ap (λ (z : List ℕ). getD (placedInTurn (emptySheet F) (materialIn A F) (recordIn F) z (blocksOf (emptySheet F))) i 0) empty
+  drawn-at i h = List·getD-append (samplesIn A F) (drop (F .width * F .height) old) 0 i (omega (arith, drawn-length))
 
 -- what was answered and left where nothing was refused
 pub back-read :
-    (A : Aids) (s : List ℕ) (r : FileBack) (samples zeros : List ℕ) → ((k : ℕ) → k ≤ 16384 → take k zeros ≡ replicate k 0) → r ≡ fileBack (readWith A s) → r .refusal ≡ 0
-    → samples ≡ leaving (readWith A s) (λ F. samplesBack A F zeros) zeros → SheetBack A (readWith A s) r samples
-back-read A s r samples zeros empty e h d = go (readWith A s) refl e d
+    (A : Aids) (s : List ℕ) (r : FileBack) (samples old : List ℕ) → r ≡ fileBack (readWith A s) → r .refusal ≡ 0
+    → samples ≡ leaving (readWith A s) (λ F. samplesBack A F old) old → SheetBack A (readWith A s) r samples
+back-read A s r samples old e h d = go (readWith A s) refl e d
   where
-    go : (x : Lined File) → readWith A s ≡ x → r ≡ fileBack x → samples ≡ leaving x (λ F. samplesBack A F zeros) zeros → SheetBack A x r samples
+    go : (x : Lined File) → readWith A s ≡ x → r ≡ fileBack x → samples ≡ leaving x (λ F. samplesBack A F old) old → SheetBack A x r samples
     go (refusedAt n k) q e d =
         let b : (0 < n) × (k < lineEnd) = subst (λ (x : Lined File). Below lineEnd x) q (read-below A 16384 1024 s) in
         absurd (omega (arith, h, ap (λ (b : FileBack). b .refusal) e))
     go (read F t) q e d =
         let f = file-fits A 16384 1024 F s t q in
-        let z = empty (F .width * F .height) (f .samples) in
         rw (e, d)
         (record {
           some = f .some;
           width = f .width;
           height = f .height;
           few = f .samples;
-          held = drawn-held A F zeros z;
-          same = sheet-same (F .width) (F .height) (samplesBack A F zeros) (samplesIn A F) (drawn-at A F zeros z);
+          held = drawn-held A F old;
+          same = sheet-same (F .width) (F .height) (samplesBack A F old) (samplesIn A F) (drawn-at A F old);
         })
 
 -- ---- the answer

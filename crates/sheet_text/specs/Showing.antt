@@ -14,7 +14,7 @@ use Rattle.record_text.specs.Line.{sizeTitle, sizeLine}
 use Rattle.record_text.specs.Lines.{Lined, refusedAt, read}
 use Rattle.record_file.specs.Reading.{File, Aids, aidsOf, readFile}
 use Rattle.record_file.specs.Writing.{spaceFor}
-use Rattle.record_read.specs.Back.{emptySheet, materialIn, recordIn, drawnOn}
+use Rattle.record_read.specs.Back.{samplesIn}
 use Rattle.sheet_print.specs.Printed.{sheetText, refusalText}
 
 -- n of a size line, 0 where there is none
@@ -36,10 +36,6 @@ pub record Listing (n : ℕ) (list : List ℕ) (count : ℕ) : Type 0 where
   pub inside : count ≤ length list
   pub whole : count ≡ length (take count list)
   pub aids : aidsOf (take count list) count [] ≡ aidsFor n
-
--- the samples that placing a file's records in turn on an empty sheet gives
-abbrev pub samplesIn : Aids → File → List ℕ
-samplesIn A F = drawnOn (emptySheet F) (materialIn A F) (recordIn F)
 
 -- the text of what reading found
 abbrev pub textBy : Aids → Lined File → List ℕ

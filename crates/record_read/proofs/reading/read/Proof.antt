@@ -117,7 +117,7 @@ returns-2 c =
       c .told-back .ensures ∙ back-is (aids d) (d .args .bytes .now) (reading d) x (l .inside) (l .few) _ (told w),
       (
         left w,
-        drawn (aids d) (d .args .bytes .now) (reading d) x (l .inside) (l .few) _ (told w) (slices d) (left w) (l .records-lent) (d .args .samples .now) (c .before .before .before .fill .ensures),
+        drawn (aids d) (d .args .bytes .now) (reading d) x (l .inside) (l .few) _ (told w) (slices d) (left w) (l .records-lent) (d .args .samples .now) (l .samples-lent) (c .before .before .before .fill .ensures),
       ),
     )
 

@@ -1,8 +1,7 @@
 -- `put_read` meets its contract: what reading answered is a refusal or a sheet, and is printed.
 use borrow.Author.Needs.{needs}
-use Prim.Native.Nat.{ℕ}
 use mathlib.Core.Path.{sym, _∙_, ap}
-use mathlib.Core.List.{List, []}
+use mathlib.Core.List.{[]}
 use native.Mathlib.Omega.{arith}
 use lib.ListN.{length, replicate}
 use Rattle.record_text.specs.Lines.{Lined}
@@ -11,7 +10,7 @@ use Rattle.sheet_print.proofs.CallLaws.{SheetFits, refusal-printed, sheet-print
 use Rattle.record_file.specs.Reading.{File, Aids, aidsOf}
 use Rattle.record_file.proofs.LineBounds.{read-below}
 use Rattle.sheet_text.specs.Showing.{textBy, readWith}
-use Rattle.sheet_text.proofs.ShowLaws.{back-refused, back-line, SheetBack, take-zeros, back-read}
+use Rattle.sheet_text.proofs.ShowLaws.{back-refused, back-line, SheetBack, back-read}
 use Rattle.sheet_text.proofs.showing.put_read.Statement.{statement}
 use Rattle.sheet_text.proofs.showing.put_read.Tie as tie
 
@@ -22,9 +21,6 @@ aids d = aidsOf (d .args .list .now) (d .args .count) []
 abbrev reading : (d : tie.Start) → Lined File
 reading d = readWith (aids d) (d .args .bytes .now)
 
-abbrev zeros : List ℕ
-zeros = replicate 16384 0
-
 -- a sheet, with the samples that reading left
 sheet :
     (c : tie.Else1)
@@ -34,7 +30,7 @@ sheet :
 sheet c =
     let r = c .before .before .before in
     let d = r .before .before .before .before .before in
-    back-read (aids d) (d .args .bytes .now) (r .read-samples .result) _ zeros (take-zeros 16384) (r .read-samples .ensures .0) (c .if1 .left) (r .read-samples .ensures .1)
+    back-read (aids d) (d .args .bytes .now) (r .read-samples .result) _ (replicate 16384 0) (r .read-samples .ensures .0) (c .if1 .left) (r .read-samples .ensures .1)
 
 slice-aggregate-read-samples : tie.Need-slice-aggregate-read-samples
 slice-aggregate-read-samples c = search needs
