@@ -49,6 +49,10 @@ int main(void) {
         sizeof block);
     if (made.refusal != 0 || made.marks != 12) return 3;
     for (int i = 0; i < 16; i++) if (block[i] != original[i]) return 4;
+    /* The fields by their types. */
+    uint32_t *const numbers[] = { &made.refusal, &made.marks, &best.refusal, &best.kind, &best.entry, &best.cost, &pattern.refusal };
+    int32_t *const offsets[] = { &best.off0, &best.off1 };
+    if (*numbers[0] != 0 || *offsets[0] != 0) return 5;
     const int stack[] = { DEPTH_BENCH_STACK_PREDICT, DEPTH_BENCH_STACK_PATTERN_OF, DEPTH_BENCH_STACK_CHOOSE };
-    return stack[0] > 0 && stack[1] > 0 && stack[2] > 0 ? 0 : 5;
+    return stack[0] > 0 && stack[1] > 0 && stack[2] > 0 ? 0 : 6;
 }
