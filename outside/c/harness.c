@@ -1,6 +1,7 @@
 /* Compares libdepth_bench.a with the independent implementation: harness SEED PREDICTIONS CHOICES PATTERNS. It ends at the first
  * difference with the case and status 1. Every lent byte, and guard bytes around it, is compared before and after. The library gets
  * NULL for an empty slice where the case says so; the independent implementation always gets an address. */
+#include <signal.h>
 #include <stdio.h>
 #include <stdlib.h>
 
@@ -11,7 +12,7 @@ enum { PREDICT, CHOOSE, PATTERN, CALLS };
 
 typedef struct { size_t n; uint64_t word; int32_t off0, off1; slice border, table, block; int null; } predict_case;
 typedef struct { size_t n; uint32_t reach; slice border, original, table, texture; int null; } choose_case;
-typedef struct { size_t n; uint32_t kind, entry; slice texture; int null; depth_bench_pattern got; } pattern_case;
+typedef struct { size_t n; uint32_t kind, entry; slice texture; int null; } pattern_case;
 
 static uint64_t seed;
 static const char *part;
@@ -26,6 +27,14 @@ static void show(const char *name, slice *s) {
 
 static void differ(const char *what) {
     printf("seed %llu, %s, case %lu: %s\n", (unsigned long long)seed, part, number, what);
+}
+
+/* A call that reads or writes through NULL ends here. */
+static void crashed(int signal_number) {
+    (void)signal_number;
+    differ("a call touched memory that is not there");
+    fflush(stdout);
+    _Exit(1);
 }
 
 static int same_slice(const slice *a, const slice *b) { return memcmp(a->bytes, b->bytes, sizeof a->bytes) == 0; }
@@ -94,19 +103,19 @@ static int predict_once(void) {
     return predict_differs(&c);
 }
 
-/* One call for the pattern of a record, compared with the judge's; the answer stays in `got`. */
+/* One call for the pattern of a record, compared with the judge's. */
 static int pattern_differs(pattern_case *c) {
     slice was = c->texture;
     depth_bench_pattern want = judge_pattern_of(c->n, c->kind, c->entry, start_of(&c->texture), c->texture.len);
-    c->got = depth_bench_pattern_of(c->n, c->kind, c->entry, lent(&c->texture, c->null), c->texture.len);
+    depth_bench_pattern got = depth_bench_pattern_of(c->n, c->kind, c->entry, lent(&c->texture, c->null), c->texture.len);
     seen[PATTERN][want.refusal]++;
-    const char *what = !same_pattern(c->got, want) ? "pattern_of: another answer"
+    const char *what = !same_pattern(got, want) ? "pattern_of: another answer"
         : !same_slice(&c->texture, &was) ? "pattern_of: the texture was altered" : NULL;
     if (what == NULL) return 0;
     differ(what);
     printf("  n %zu kind %u entry %u\n", c->n, c->kind, c->entry);
     for (int i = 0; i < 2; i++) {
-        const depth_bench_pattern *p = i == 0 ? &c->got : &want;
+        const depth_bench_pattern *p = i == 0 ? &got : &want;
         printf("  %s %u:", i == 0 ? "got     " : "expected", p->refusal);
         for (int k = 0; k < 4; k++) printf(" %016llx", (unsigned long long)p->word[k]);
         printf("\n");
@@ -185,10 +194,10 @@ static uint32_t any_reach(void) {
 
 /* The chosen record's own pattern, predicted by the library, differs from the original by the cost in the answer. */
 static const char *record_differs(choose_case *c, depth_bench_choice best) {
-    pattern_case p = { .n = c->n, .kind = best.kind, .entry = best.entry, .texture = c->texture, .null = c->null };
-    if (pattern_differs(&p)) return "choose: the pattern of the record";
+    depth_bench_pattern pattern = depth_bench_pattern_of(c->n, best.kind, best.entry, lent(&c->texture, c->null), c->texture.len);
     uint8_t block[64];
-    depth_bench_prediction made = depth_bench_predict(c->n, p.got.word[0], start_of(&c->border), c->border.len, start_of(&c->table),
+    if (pattern.refusal != 0) return "choose: the record's pattern is refused";
+    depth_bench_prediction made = depth_bench_predict(c->n, pattern.word[0], start_of(&c->border), c->border.len, start_of(&c->table),
         c->table.len, best.off0, best.off1, block, c->n * c->n);
     if (made.refusal != 0) return "choose: the record's prediction is refused";
     uint32_t sum = 0;
@@ -284,6 +293,7 @@ int main(int argc, char **argv) {
     random_state = seed * 2 + 1;
     unsigned long predictions = strtoul(argv[2], NULL, 10), choices = strtoul(argv[3], NULL, 10), patterns = strtoul(argv[4], NULL, 10);
     printf("seed %llu: %lu predictions, %lu choices, %lu patterns\n", (unsigned long long)seed, predictions, choices, patterns);
+    signal(SIGSEGV, crashed);
     if (null_in_turn() || patterns_in_order() || patterns_of_lists()) return 1;
     if (repeat("predictions", predictions, predict_once) || repeat("patterns", patterns, pattern_once)) return 1;
     if (repeat("choices", choices, choose_once)) return 1;
