@@ -1,15 +1,17 @@
-/* The depth edge bench for C: prediction and choice (document 01, "Predicted block" and "Choice").
+/* The depth edge bench for C: choose the record that comes closest to a block, get the pattern of a record, predict a block.
  *
- * Every call checks its own input, reads and writes only inside the slices that it is lent, and ends. A refusal has its number
- * in `refusal` (0: none) and 0 in all other fields, and alters nothing.
+ * A block is n rows of n depth samples, row by row, n = 4 or 8. A pattern marks samples of a block: bit y*n + x of its word is the mark of
+ * the sample in column x of row y. A record is a pattern, named by its kind and entry, and two offsets. docs/REFERENCE.md has the whole.
  *
- *   1  n is neither 4 nor 8
- *   2  a slice of a wrong length: neighbours (border) not 4n, block or original not n*n, texture neither empty nor n*n
- *   3  the table has no value or more than 256, or its values do not rise strictly
- *   5  n = 4 and the word has a bit from 16 up
- *   4  an offset outside -255 .. 255, or a reach above 255
+ * - A slice is a pointer and its length in bytes. Where the length is 0 the pointer may be NULL: nothing is read or written through it.
+ *   A slice that is written (`block`) must not overlap another one.
+ * - Every call checks its own input, reads and writes only inside the slices that it is lent, and ends. A refusal has its number in
+ *   `refusal` (0: none) and 0 in all other fields, and alters nothing. The numbers stand at each call in the order of the checks.
+ * - The calls keep no state and allocate nothing. They may be called from several threads at once, as long as no other thread uses a slice
+ *   that is written.
+ * - A call needs fewer than DEPTH_BENCH_STACK_.. bytes of stack, as measured over many inputs (outside/c/stack.c) and rounded up.
  *
- * Link with libdepth_bench.a. A pointer whose length is 0 may be NULL. A slice that is written must not overlap another.
+ * Link with libdepth_bench.a (x86-64). These are plain declarations: a function pointer or a test double takes any of the three names.
  */
 #ifndef DEPTH_BENCH_H
 #define DEPTH_BENCH_H
@@ -21,46 +23,57 @@
 extern "C" {
 #endif
 
+enum { DEPTH_BENCH_STACK_PREDICT = 1024, DEPTH_BENCH_STACK_PATTERN_OF = 8192, DEPTH_BENCH_STACK_CHOOSE = 12288 };
+
+/* marks: the number of marked samples of the pattern. */
 typedef struct { uint32_t refusal, marks; } depth_bench_prediction;
+
+/* kind: 0 a wedgelet (a straight edge), 1 the contour (the outline of the texture).
+ * entry: the place in the wedgelet list for n, from 0; of the contour 0.
+ * off0, off1: what is added to the table index of the unmarked and of the marked samples.
+ * cost: the sum of absolute differences between the record's prediction and the original. */
 typedef struct { uint32_t refusal, kind, entry; int32_t off0, off1; uint32_t cost; } depth_bench_choice;
 
-/* Writes the n*n predicted samples of the pattern `word` to `block`; `marks` is the number of marked samples.
- * border: left samples L0 to L(2n-1), downward, then top samples T0 to T(2n-1), rightward. off0 is for unmarked samples, off1 for
- * marked ones. */
+/* word[0] is the pattern: of n = 4 its low 16 bits, of n = 8 all 64. Words 1 to 3 are 0; they are there for larger blocks. */
+typedef struct { uint32_t refusal; uint64_t word[4]; } depth_bench_pattern;
+
+/* The sizes that the library was built with: an array of length -1 does not compile. */
+typedef char depth_bench_size_t_has_8_bytes[sizeof(size_t) == 8 ? 1 : -1];
+typedef char depth_bench_prediction_has_8_bytes[sizeof(depth_bench_prediction) == 8 ? 1 : -1];
+typedef char depth_bench_choice_has_24_bytes[sizeof(depth_bench_choice) == 24 ? 1 : -1];
+typedef char depth_bench_pattern_has_40_bytes[sizeof(depth_bench_pattern) == 40 ? 1 : -1];
+typedef char depth_bench_pattern_words_at_8[offsetof(depth_bench_pattern, word) == 8 ? 1 : -1];
+
+/* Writes the n*n predicted samples of the pattern `word` to `block`.
+ * border: the 4n neighbours, left samples L0 to L(2n-1), downward, then top samples T0 to T(2n-1), rightward.
+ * table: 1 to 256 depth values, strictly rising. off0 is for unmarked samples, off1 for marked ones.
+ *   1  n is neither 4 nor 8
+ *   2  border is not 4n bytes long, or block not n*n
+ *   3  the table has no value or more than 256, or its values do not rise strictly
+ *   5  n = 4 and the word has a bit from 16 up
+ *   4  an offset is outside -255 .. 255 */
 depth_bench_prediction depth_bench_predict(size_t n, uint64_t word, const uint8_t *border, size_t border_len,
     const uint8_t *table, size_t table_len, int32_t off0, int32_t off1, uint8_t *block, size_t block_len);
 
-/* The record of least cost for the block `original`: kind 0 is an entry of the wedgelet list for n, kind 1 the contour of `texture`.
- * A texture of length 0 is none. */
+/* The record of least cost for the block `original`, out of all wedgelets of the list for n, the contour of `texture` where one is lent
+ * (a texture of length 0 is none), and all offsets in -reach .. reach. Of records of equal cost the one that comes first is chosen:
+ * wedgelets before the contour, a lower entry before a higher one; then by off0, then by off1, the one nearer to 0 first, and of two
+ * equally near the negative one.
+ *   1  n is neither 4 nor 8
+ *   2  border is not 4n bytes long, original not n*n, or texture neither 0 nor n*n
+ *   3  the table has no value or more than 256, or its values do not rise strictly
+ *   4  reach is above 255 */
 depth_bench_choice depth_bench_choose(size_t n, const uint8_t *border, size_t border_len, const uint8_t *original, size_t original_len,
     const uint8_t *table, size_t table_len, uint32_t reach, const uint8_t *texture, size_t texture_len);
 
-/* A slice of length 0 needs an address all the same: NULL becomes that of one byte, which is never read or written. */
-static inline const uint8_t *depth_bench_lent(const uint8_t *slice, size_t len) {
-    static const uint8_t none[1] = { 0 };
-    return slice == NULL && len == 0 ? none : slice;
-}
-
-static inline uint8_t *depth_bench_lent_out(uint8_t *slice, size_t len) {
-    static uint8_t none[1];
-    return slice == NULL && len == 0 ? none : slice;
-}
-
-static inline depth_bench_prediction depth_bench_predict_lent(size_t n, uint64_t word, const uint8_t *border, size_t border_len,
-    const uint8_t *table, size_t table_len, int32_t off0, int32_t off1, uint8_t *block, size_t block_len) {
-    return depth_bench_predict(n, word, depth_bench_lent(border, border_len), border_len, depth_bench_lent(table, table_len), table_len,
-        off0, off1, depth_bench_lent_out(block, block_len), block_len);
-}
-
-static inline depth_bench_choice depth_bench_choose_lent(size_t n, const uint8_t *border, size_t border_len, const uint8_t *original,
-    size_t original_len, const uint8_t *table, size_t table_len, uint32_t reach, const uint8_t *texture, size_t texture_len) {
-    return depth_bench_choose(n, depth_bench_lent(border, border_len), border_len, depth_bench_lent(original, original_len), original_len,
-        depth_bench_lent(table, table_len), table_len, reach, depth_bench_lent(texture, texture_len), texture_len);
-}
-
-/* Calls by these names go through the functions above; (depth_bench_predict) and (depth_bench_choose) name the library's own. */
-#define depth_bench_predict(...) depth_bench_predict_lent(__VA_ARGS__)
-#define depth_bench_choose(...) depth_bench_choose_lent(__VA_ARGS__)
+/* The pattern of the record that `kind` and `entry` name: the entry of the wedgelet list for n, or the contour of `texture`, which is the
+ * texture that was lent to the choice. With kind 0 the texture may be left out.
+ *   1   n is neither 4 nor 8
+ *   2   texture is neither 0 nor n*n bytes long
+ *   7   kind is neither 0 nor 1, or kind is 1 and entry is not 0
+ *   21  kind is 1 and there is no texture
+ *   6   kind is 0 and entry is not below the number of wedgelets for n */
+depth_bench_pattern depth_bench_pattern_of(size_t n, uint32_t kind, uint32_t entry, const uint8_t *texture, size_t texture_len);
 
 #ifdef __cplusplus
 }

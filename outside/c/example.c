@@ -1,5 +1,7 @@
-/* Chooses the record that comes closest to one 8 by 8 block, predicts the block from it, and prints both as text. */
+/* Chooses the record that comes closest to one 8 by 8 block, gets its pattern, predicts the block from it, and prints both as text. The
+ * differences between them, summed here, are the cost in the answer. */
 #include <stdio.h>
+#include <stdlib.h>
 
 #include "depth_bench.h"
 
@@ -20,25 +22,24 @@ int main(void) {
     }
 
     depth_bench_choice best = depth_bench_choose(8, border, sizeof border, original, sizeof original, table, sizeof table, 5, NULL, 0);
-    if (best.refusal != 0) {
-        printf("refusal %u\n", best.refusal);
+    depth_bench_pattern pattern = depth_bench_pattern_of(8, best.kind, best.entry, NULL, 0);
+    depth_bench_prediction made = depth_bench_predict(8, pattern.word[0], border, sizeof border, table, sizeof table, best.off0, best.off1,
+        predicted, sizeof predicted);
+    if (best.refusal != 0 || pattern.refusal != 0 || made.refusal != 0) {
+        printf("refusals %u, %u and %u\n", best.refusal, pattern.refusal, made.refusal);
         return 1;
     }
-    printf("kind %u, entry %u, offsets %d and %d, cost %u\n\n", best.kind, best.entry, best.off0, best.off1, best.cost);
 
-    /* A pattern is a word: bit y * 8 + x marks sample (x, y). This is the edge seen in the block. */
-    uint64_t word = 0;
-    for (int y = 0; y < 8; y++) {
-        for (int x = 0; x < 8; x++) if (y > 3 + x / 2) word |= (uint64_t)1 << (y * 8 + x);
-    }
-    depth_bench_prediction made = depth_bench_predict(8, word, border, sizeof border, table, sizeof table, best.off0, best.off1,
-        predicted, sizeof predicted);
-    printf("original    predicted (%u samples marked)\n", made.marks);
+    int sum = 0;
+    for (int i = 0; i < 64; i++) sum += abs(predicted[i] - original[i]);
+    printf("kind %u, entry %u, offsets %d and %d, cost %u\n", best.kind, best.entry, best.off0, best.off1, best.cost);
+    printf("pattern %016llx, %u samples marked, differences %d\n\n", (unsigned long long)pattern.word[0], made.marks, sum);
+    printf("original    predicted\n");
     for (int y = 0; y < 8; y++) {
         print_row(original + 8 * y);
         printf("    ");
         print_row(predicted + 8 * y);
         printf("\n");
     }
-    return 0;
+    return (uint32_t)sum != best.cost;
 }

@@ -1,14 +1,23 @@
-/* Compares libdepth_bench.a with the independent implementation: harness SEED PREDICTIONS CHOICES. It ends at the first
- * difference with the case and status 1. Every lent byte, and guard bytes around it, is compared before and after. */
+/* Compares libdepth_bench.a with the independent implementation: harness SEED PREDICTIONS CHOICES PATTERNS. It ends at the first
+ * difference with the case and status 1. Every lent byte, and guard bytes around it, is compared before and after. The library gets
+ * NULL for an empty slice where the case says so; the independent implementation always gets an address. */
+#include <signal.h>
 #include <stdio.h>
 #include <stdlib.h>
 
 #include "inputs.h"
 #include "judge.h"
 
+enum { PREDICT, CHOOSE, PATTERN, CALLS };
+
+typedef struct { size_t n; uint64_t word; int32_t off0, off1; slice border, table, block; int null; } predict_case;
+typedef struct { size_t n; uint32_t reach; slice border, original, table, texture; int null; } choose_case;
+typedef struct { size_t n; uint32_t kind, entry; slice texture; int null; } pattern_case;
+
 static uint64_t seed;
+static const char *part;
 static unsigned long number;
-static unsigned long seen[2][11];
+static unsigned long seen[CALLS][22];
 
 static void show(const char *name, slice *s) {
     printf("  %s (%zu):", name, s->len);
@@ -17,13 +26,28 @@ static void show(const char *name, slice *s) {
 }
 
 static void differ(const char *what) {
-    printf("seed %llu, case %lu: %s\n", (unsigned long long)seed, number, what);
+    printf("seed %llu, %s, case %lu: %s\n", (unsigned long long)seed, part, number, what);
+}
+
+/* A call that reads or writes through NULL ends here. */
+static void crashed(int signal_number) {
+    (void)signal_number;
+    differ("a call touched memory that is not there");
+    fflush(stdout);
+    _Exit(1);
 }
 
 static int same_slice(const slice *a, const slice *b) { return memcmp(a->bytes, b->bytes, sizeof a->bytes) == 0; }
 
+/* Where the library finds a slice. */
+static uint8_t *lent(slice *s, int null) { return null && s->len == 0 ? NULL : start_of(s); }
+
 static int same_choice(depth_bench_choice a, depth_bench_choice b) {
     return a.refusal == b.refusal && a.kind == b.kind && a.entry == b.entry && a.off0 == b.off0 && a.off1 == b.off1 && a.cost == b.cost;
+}
+
+static int same_pattern(depth_bench_pattern a, depth_bench_pattern b) {
+    return a.refusal == b.refusal && memcmp(a.word, b.word, sizeof a.word) == 0;
 }
 
 static uint64_t any_word(size_t n) {
@@ -39,31 +63,128 @@ static uint64_t any_word(size_t n) {
 }
 
 /* One prediction, compared with the judge's. */
-static int predict_once(void) {
-    slice border, table, block;
-    size_t n = any_size(12);
-    uint64_t word = any_word(n);
-    int32_t off0 = any_offset(12), off1 = any_offset(12);
-    size_t side = n == 4 ? 4 : 8;
-    fill_samples(&border, length_near(4 * side, 12));
-    fill_table(&table, 12);
-    fill_samples(&block, length_near(side * side, 12));
-    slice border_was = border, table_was = table, expected = block, block_was = block;
-    depth_bench_prediction want = judge_predict(n, word, start_of(&border), border.len, start_of(&table), table.len, off0, off1,
-        start_of(&expected), expected.len);
-    depth_bench_prediction got = depth_bench_predict(n, word, start_of(&border), border.len, start_of(&table), table.len, off0, off1,
-        start_of(&block), block.len);
-    seen[0][want.refusal]++;
+static int predict_differs(predict_case *c) {
+    predict_case was = *c;
+    slice expected = c->block;
+    depth_bench_prediction want = judge_predict(c->n, c->word, start_of(&c->border), c->border.len, start_of(&c->table), c->table.len,
+        c->off0, c->off1, start_of(&expected), expected.len);
+    depth_bench_prediction got = depth_bench_predict(c->n, c->word, lent(&c->border, c->null), c->border.len, lent(&c->table, c->null),
+        c->table.len, c->off0, c->off1, lent(&c->block, c->null), c->block.len);
+    seen[PREDICT][want.refusal]++;
     const char *what = got.refusal != want.refusal || got.marks != want.marks ? "predict: another answer"
-        : !same_slice(&block, &expected) ? "predict: another block"
-        : !same_slice(&border, &border_was) || !same_slice(&table, &table_was) ? "predict: an input was altered"
-        : want.refusal != 0 && !same_slice(&block, &block_was) ? "predict: a refusal altered the block" : NULL;
+        : !same_slice(&c->block, &expected) ? "predict: another block"
+        : !same_slice(&c->border, &was.border) || !same_slice(&c->table, &was.table) ? "predict: an input was altered"
+        : want.refusal != 0 && !same_slice(&c->block, &was.block) ? "predict: a refusal altered the block" : NULL;
     if (what == NULL) return 0;
     differ(what);
-    printf("  n %zu word %016llx off0 %d off1 %d\n", n, (unsigned long long)word, off0, off1);
+    printf("  n %zu word %016llx off0 %d off1 %d\n", c->n, (unsigned long long)c->word, c->off0, c->off1);
     printf("  refusal %u marks %u, expected %u %u\n", got.refusal, got.marks, want.refusal, want.marks);
-    show("border", &border_was); show("table", &table_was); show("block", &block); show("expected", &expected);
+    show("border", &was.border); show("table", &was.table); show("block", &c->block); show("expected", &expected);
     return 1;
+}
+
+/* A prediction for blocks of n by n; once in `times` each slice and each offset is damaged. */
+static predict_case any_prediction(size_t n, uint32_t times) {
+    predict_case c;
+    size_t side = n == 4 ? 4 : 8;
+    c.n = n;
+    c.word = any_word(n);
+    c.off0 = any_offset(times);
+    c.off1 = any_offset(times);
+    c.null = below(2) == 1;
+    fill_samples(&c.border, length_near(4 * side, times));
+    fill_table(&c.table, times);
+    fill_samples(&c.block, length_near(side * side, times));
+    return c;
+}
+
+static int predict_once(void) {
+    predict_case c = any_prediction(any_size(12), 12);
+    return predict_differs(&c);
+}
+
+/* One call for the pattern of a record, compared with the judge's. */
+static int pattern_differs(pattern_case *c) {
+    slice was = c->texture;
+    depth_bench_pattern want = judge_pattern_of(c->n, c->kind, c->entry, start_of(&c->texture), c->texture.len);
+    depth_bench_pattern got = depth_bench_pattern_of(c->n, c->kind, c->entry, lent(&c->texture, c->null), c->texture.len);
+    seen[PATTERN][want.refusal]++;
+    const char *what = !same_pattern(got, want) ? "pattern_of: another answer"
+        : !same_slice(&c->texture, &was) ? "pattern_of: the texture was altered" : NULL;
+    if (what == NULL) return 0;
+    differ(what);
+    printf("  n %zu kind %u entry %u\n", c->n, c->kind, c->entry);
+    for (int i = 0; i < 2; i++) {
+        const depth_bench_pattern *p = i == 0 ? &got : &want;
+        printf("  %s %u:", i == 0 ? "got     " : "expected", p->refusal);
+        for (int k = 0; k < 4; k++) printf(" %016llx", (unsigned long long)p->word[k]);
+        printf("\n");
+    }
+    show("texture", &was);
+    return 1;
+}
+
+static uint32_t any_kind(void) {
+    static const uint32_t others[] = { 2, 3, 4, 255, 256, 257, 65536, INT32_MAX, (uint32_t)INT32_MAX + 1, UINT32_MAX };
+    return seldom(12) ? others[below(10)] : below(2);
+}
+
+/* An entry: 0, one of the list, about its end, or far past it. */
+static uint32_t any_entry(size_t n) {
+    uint32_t count = n == 4 ? 74 : 498;
+    switch (below(8)) {
+    case 0: return count - 1 + below(3);
+    case 1: return below(800);
+    case 2: return seldom(2) ? UINT32_MAX - below(2) : (uint32_t)random_word();
+    case 3: case 4: return below(count);
+    default: return 0;
+    }
+}
+
+static int pattern_once(void) {
+    pattern_case c;
+    c.n = any_size(20);
+    c.kind = any_kind();
+    c.entry = any_entry(c.n);
+    c.null = below(2) == 1;
+    size_t side = c.n == 4 ? 4 : 8;
+    fill_samples(&c.texture, seldom(4) ? 0 : length_near(side * side, 10));
+    return pattern_differs(&c);
+}
+
+/* Every entry of both lists, up to the first that the judge refuses. */
+static int patterns_of_lists(void) {
+    part = "lists";
+    for (size_t n = 4; n <= 8; n += 4) {
+        pattern_case c = { .n = n, .null = 1 };
+        unsigned long refused = seen[PATTERN][6];
+        for (number = 0; seen[PATTERN][6] == refused; number++) {
+            c.entry = (uint32_t)number;
+            if (pattern_differs(&c)) return 1;
+        }
+        printf("wedgelets for n = %zu: %lu\n", n, number - 1);
+    }
+    return 0;
+}
+
+/* Sizes, lengths, kinds and entries, sound and wrong, each with each: where several are wrong, the first check answers. */
+static int patterns_in_order(void) {
+    static const size_t sizes[] = { 4, 8, 0, 3, 5, 16, ((size_t)1 << 32) + 4, ((size_t)1 << 32) + 8, (size_t)1 << 63, SIZE_MAX };
+    static const size_t lengths[] = { 0, 1, 15, 16, 17, 63, 64, 65, 256 };
+    static const uint32_t kinds[] = { 0, 1, 2, 256, 257, UINT32_MAX }, entries[] = { 0, 1, 74, 498, 65536, UINT32_MAX };
+    pattern_case c;
+    part = "order";
+    number = 0;
+    for (int s = 0; s < 10; s++) for (int l = 0; l < 9; l++) for (int k = 0; k < 6; k++) for (int e = 0; e < 6; e++) {
+        c.n = sizes[s];
+        c.kind = kinds[k];
+        c.entry = entries[e];
+        c.null = number % 2 == 0;
+        fill_samples(&c.texture, lengths[l]);
+        if (pattern_differs(&c)) return 1;
+        number++;
+    }
+    return 0;
 }
 
 static uint32_t any_reach(void) {
@@ -71,32 +192,76 @@ static uint32_t any_reach(void) {
     return seldom(20) ? 256 + below(1000) : seldom(20) ? 255 : often[below(5)];
 }
 
-/* One choice, compared with the judge's; without texture the pointer is NULL. */
-static int choose_once(void) {
-    slice border, original, table, texture;
-    size_t n = any_size(20);
-    uint32_t reach = any_reach();
-    size_t side = n == 4 ? 4 : 8;
-    fill_samples(&border, length_near(4 * side, 20));
-    fill_samples(&original, length_near(side * side, 20));
-    fill_table(&table, 20);
-    fill_samples(&texture, below(2) ? 0 : length_near(side * side, 10));
-    slice was[4] = { border, original, table, texture };
-    depth_bench_choice want = judge_choose(n, start_of(&border), border.len, start_of(&original), original.len, start_of(&table), table.len,
-        reach, start_of(&texture), texture.len);
-    depth_bench_choice got = depth_bench_choose(n, start_of(&border), border.len, start_of(&original), original.len, start_of(&table),
-        table.len, reach, texture.len == 0 ? NULL : start_of(&texture), texture.len);
-    seen[1][want.refusal]++;
+/* The chosen record's own pattern, predicted by the library, differs from the original by the cost in the answer. */
+static const char *record_differs(choose_case *c, depth_bench_choice best) {
+    depth_bench_pattern pattern = depth_bench_pattern_of(c->n, best.kind, best.entry, lent(&c->texture, c->null), c->texture.len);
+    uint8_t block[64];
+    if (pattern.refusal != 0) return "choose: the record's pattern is refused";
+    depth_bench_prediction made = depth_bench_predict(c->n, pattern.word[0], start_of(&c->border), c->border.len, start_of(&c->table),
+        c->table.len, best.off0, best.off1, block, c->n * c->n);
+    if (made.refusal != 0) return "choose: the record's prediction is refused";
+    uint32_t sum = 0;
+    for (size_t i = 0; i < c->n * c->n; i++) sum += (uint32_t)abs(block[i] - start_of(&c->original)[i]);
+    return sum == best.cost ? NULL : "choose: the record's prediction does not have the cost in the answer";
+}
+
+/* One choice, compared with the judge's. */
+static int choose_differs(choose_case *c) {
+    choose_case was = *c;
+    depth_bench_choice want = judge_choose(c->n, start_of(&c->border), c->border.len, start_of(&c->original), c->original.len,
+        start_of(&c->table), c->table.len, c->reach, start_of(&c->texture), c->texture.len);
+    depth_bench_choice got = depth_bench_choose(c->n, lent(&c->border, c->null), c->border.len, lent(&c->original, c->null),
+        c->original.len, lent(&c->table, c->null), c->table.len, c->reach, lent(&c->texture, c->null), c->texture.len);
+    seen[CHOOSE][want.refusal]++;
     const char *what = !same_choice(got, want) ? "choose: another answer"
-        : !same_slice(&border, &was[0]) || !same_slice(&original, &was[1]) || !same_slice(&table, &was[2]) || !same_slice(&texture, &was[3])
-        ? "choose: an input was altered" : NULL;
+        : !same_slice(&c->border, &was.border) || !same_slice(&c->original, &was.original) || !same_slice(&c->table, &was.table)
+        || !same_slice(&c->texture, &was.texture) ? "choose: an input was altered"
+        : got.refusal == 0 ? record_differs(c, got) : NULL;
     if (what == NULL) return 0;
     differ(what);
-    printf("  n %zu reach %u\n", n, reach);
+    printf("  n %zu reach %u\n", c->n, c->reach);
     printf("  got      %u: %u %u %d %d cost %u\n", got.refusal, got.kind, got.entry, got.off0, got.off1, got.cost);
     printf("  expected %u: %u %u %d %d cost %u\n", want.refusal, want.kind, want.entry, want.off0, want.off1, want.cost);
-    show("border", &was[0]); show("original", &was[1]); show("table", &was[2]); show("texture", &was[3]);
+    show("border", &was.border); show("original", &was.original); show("table", &was.table); show("texture", &was.texture);
     return 1;
+}
+
+/* A choice for blocks of n by n; once in `times` each slice is damaged, once in 20 the reach. Half of the choices have no texture. */
+static choose_case any_choice(size_t n, uint32_t times) {
+    choose_case c;
+    size_t side = n == 4 ? 4 : 8;
+    c.n = n;
+    c.reach = any_reach();
+    c.null = below(2) == 1;
+    fill_samples(&c.border, length_near(4 * side, times));
+    fill_samples(&c.original, length_near(side * side, times));
+    fill_table(&c.table, times);
+    fill_samples(&c.texture, below(2) ? 0 : length_near(side * side, times));
+    return c;
+}
+
+static int choose_once(void) {
+    choose_case c = any_choice(any_size(20), 20);
+    return choose_differs(&c);
+}
+
+/* NULL with length 0 for each slice of each call in turn, and for every number of them together; n allowed and not. */
+static int null_in_turn(void) {
+    static const size_t sizes[] = { 4, 8, 5 };
+    part = "NULL";
+    number = 0;
+    for (int s = 0; s < 3; s++) for (unsigned empty = 1; empty < 16; empty++, number++) {
+        predict_case p = any_prediction(sizes[s], 0);
+        choose_case c = any_choice(sizes[s], 0);
+        pattern_case t = { .n = sizes[s], .kind = empty % 2 };
+        slice *of_predict[] = { &p.border, &p.table, &p.block }, *of_choose[] = { &c.border, &c.original, &c.table, &c.texture };
+        for (int i = 0; i < 3; i++) if (empty >> i & 1) of_predict[i]->len = 0;
+        for (int i = 0; i < 4; i++) if (empty >> i & 1) of_choose[i]->len = 0;
+        p.null = c.null = t.null = 1;
+        c.reach = 5;
+        if (predict_differs(&p) || choose_differs(&c) || pattern_differs(&t)) return 1;
+    }
+    return 0;
 }
 
 /* Each refusal that a call can give has to have come up. */
@@ -111,17 +276,27 @@ static int all_seen(int call, const char *name, const int *numbers, int count) {
     return missing;
 }
 
+/* So many random cases of a call. */
+static int repeat(const char *name, unsigned long times, int (*once)(void)) {
+    part = name;
+    for (number = 0; number < times; number++) if (once()) return 1;
+    return 0;
+}
+
 int main(int argc, char **argv) {
-    static const int of_predict[] = { 0, 1, 2, 3, 5, 4 }, of_choose[] = { 0, 1, 2, 3, 4 };
-    if (argc != 4) {
-        fprintf(stderr, "usage: harness SEED PREDICTIONS CHOICES\n");
+    static const int of_predict[] = { 0, 1, 2, 3, 5, 4 }, of_choose[] = { 0, 1, 2, 3, 4 }, of_pattern[] = { 0, 1, 2, 7, 21, 6 };
+    if (argc != 5) {
+        fprintf(stderr, "usage: harness SEED PREDICTIONS CHOICES PATTERNS\n");
         return 2;
     }
     seed = strtoull(argv[1], NULL, 10);
     random_state = seed * 2 + 1;
-    unsigned long predictions = strtoul(argv[2], NULL, 10), choices = strtoul(argv[3], NULL, 10);
-    printf("seed %llu: %lu predictions, %lu choices\n", (unsigned long long)seed, predictions, choices);
-    for (number = 0; number < predictions; number++) if (predict_once()) return 1;
-    for (number = 0; number < choices; number++) if (choose_once()) return 1;
-    return all_seen(0, "predict", of_predict, 6) | all_seen(1, "choose", of_choose, 5);
+    unsigned long predictions = strtoul(argv[2], NULL, 10), choices = strtoul(argv[3], NULL, 10), patterns = strtoul(argv[4], NULL, 10);
+    printf("seed %llu: %lu predictions, %lu choices, %lu patterns\n", (unsigned long long)seed, predictions, choices, patterns);
+    signal(SIGSEGV, crashed);
+    if (null_in_turn() || patterns_in_order() || patterns_of_lists()) return 1;
+    if (repeat("predictions", predictions, predict_once) || repeat("patterns", patterns, pattern_once)) return 1;
+    if (repeat("choices", choices, choose_once)) return 1;
+    return all_seen(PREDICT, "predict", of_predict, 6) | all_seen(CHOOSE, "choose", of_choose, 5)
+        | all_seen(PATTERN, "pattern_of", of_pattern, 6);
 }

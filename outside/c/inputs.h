@@ -23,8 +23,8 @@ static inline uint64_t random_word(void) {
 /* A number below `end`. */
 static inline uint32_t below(uint32_t end) { return (uint32_t)((random_word() >> 32) % end); }
 
-/* True once in `times` on the average. */
-static inline int seldom(uint32_t times) { return below(times) == 0; }
+/* True once in `times` on the average, never where that is 0. */
+static inline int seldom(uint32_t times) { return times != 0 && below(times) == 0; }
 
 static inline uint8_t *start_of(slice *s) { return s->bytes + GUARD; }
 

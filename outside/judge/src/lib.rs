@@ -3,7 +3,7 @@
 
 mod tallied;
 
-use reference::choice::{choose, Request};
+use reference::choice::{choose, pattern_of, Request};
 use reference::edges::edge_list;
 use reference::predict::predict;
 use std::slice::{from_raw_parts, from_raw_parts_mut};
@@ -25,6 +25,14 @@ pub struct Choice {
     pub off0: i32,
     pub off1: i32,
     pub cost: u32,
+}
+
+/// A pattern as `depth_bench.h` has it; a refusal has 0 in all words.
+#[repr(C)]
+#[derive(Default)]
+pub struct Pattern {
+    pub refusal: u32,
+    pub word: [u64; 4],
 }
 
 /// The bytes that C lends.
@@ -99,6 +107,24 @@ pub unsafe extern "C" fn judge_choose(
             cost: found.cost,
         },
         Err(refusal) => Choice { refusal, ..Choice::default() },
+    }
+}
+
+/// The pattern of a record of the independent implementation.
+///
+/// # Safety
+/// `texture` is not null and has as many bytes as its length says.
+#[no_mangle]
+pub unsafe extern "C" fn judge_pattern_of(
+    n: usize,
+    kind: u32,
+    entry: u32,
+    texture: *const u8,
+    texture_len: usize,
+) -> Pattern {
+    match pattern_of(n, kind, entry, lent(texture, texture_len)) {
+        Ok(word) => Pattern { refusal: 0, word: [word, 0, 0, 0] },
+        Err(refusal) => Pattern { refusal, ..Pattern::default() },
     }
 }
 

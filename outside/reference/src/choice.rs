@@ -1,11 +1,12 @@
 //! Choice: the record of least cost.
 
 use crate::block::{mark, size_allowed};
+use crate::edges::edge_list;
 use crate::outline::outline;
 use crate::predict::{depths_by_mark, predicted, side_value};
 use crate::sides::word_allowed;
 use crate::table::sound;
-use crate::{EMPTY_CHOICE, LENGTH, OFFSET, SIZE, TABLE, WORD};
+use crate::{EMPTY_CHOICE, ENTRY, KIND, LENGTH, NO_TEXTURE, OFFSET, SIZE, TABLE, WORD};
 
 /// Kind 0 is an edge of the list, kind 1 the outline, whose entry is 0.
 #[derive(Clone, Copy, Debug, Default, PartialEq, Eq)]
@@ -150,6 +151,23 @@ pub fn choose(request: &Request) -> Result<Choice, u32> {
         }
     }
     Ok(best.unwrap())
+}
+
+/// "A record's pattern is the one the list has at its entry, or for kind 1 the outline of the texture
+/// lent with the block"; the list is the edge list for n. Refusals: 1, 2, 7, 21, 6.
+pub fn pattern_of(n: usize, kind: u32, entry: u32, texture: &[u8]) -> Result<u64, u32> {
+    if !size_allowed(n) {
+        return Err(SIZE);
+    }
+    if !texture.is_empty() && texture.len() != n * n {
+        return Err(LENGTH);
+    }
+    match (kind, entry) {
+        (0, _) => edge_list(n).get(entry as usize).copied().ok_or(ENTRY),
+        (1, 0) if texture.is_empty() => Err(NO_TEXTURE),
+        (1, 0) => Ok(outline(texture)),
+        _ => Err(KIND),
+    }
 }
 
 #[cfg(test)]

@@ -229,3 +229,30 @@ fn the_law_needs_its_condition() {
     assert_eq!(choose(&request).unwrap().cost, 0);
     assert_eq!(choose(&Request { border: &turned, ..request }).unwrap().cost, 10);
 }
+
+#[test]
+fn the_pattern_of_a_record_is_its_entry_or_the_outline() {
+    let texture: Vec<u8> = (0..64).collect();
+    for n in [4, 8] {
+        let (list, texture) = (edge_list(n), &texture[..n * n]);
+        for lent in [&[][..], texture] {
+            let words: Vec<u64> =
+                (0..list.len() as u32).map(|entry| pattern_of(n, 0, entry, lent).unwrap()).collect();
+            assert_eq!(words, list);
+        }
+        assert_eq!(pattern_of(n, 1, 0, texture), Ok(outline(texture)));
+    }
+    assert_eq!(pattern_of(4, 0, 6, &[]), Ok(0x008E));
+}
+
+#[test]
+fn refusals_of_a_pattern_in_order() {
+    assert_eq!(pattern_of(5, 2, 0, &[0; 15]), Err(1));
+    assert_eq!(pattern_of(4, 2, 0, &[0; 15]), Err(2));
+    assert_eq!(pattern_of(8, 0, 498, &[0; 16]), Err(2));
+    assert_eq!(pattern_of(4, 2, 74, &[]), Err(7));
+    assert_eq!(pattern_of(4, 1, 1, &[]), Err(7));
+    assert_eq!(pattern_of(4, 1, 0, &[]), Err(21));
+    assert_eq!(pattern_of(4, 0, 74, &[]), Err(6));
+    assert_eq!(pattern_of(8, 0, u32::MAX, &[0; 64]), Err(6));
+}
