@@ -189,13 +189,13 @@ fn wedgelet_pattern(n: usize, entry: u32) -> Pattern
     requires { ⌜ sizeOk n ≡ true ⌝ }
     ensures { λ r. ⌜ r ≡ patternStruct (answer (unless (ltb entry (length (wedgeletList n))) 6 0) (getD (builtList n) entry 0)) ⌝ }
 {
-    let mut list = [0u64; 756];
-    let built = wedgelet::wedgelets(n, &mut list);
+    let mut words = [0u64; 756];
+    let built = wedgelet::wedgelets(n, &mut words);
     let at = entry as usize;
     match built {
         Listed::Count(count) => {
             if at < count {
-                return pattern_in(list[at]);
+                return pattern_in(words[at]);
             }
             no_pattern(6)
         }
