@@ -1,5 +1,8 @@
 // The choice of a record (document 01, "Choice").
 mod answer;
+mod layers;
+mod offsets;
+mod parts;
 mod search;
 
 pub use answer::choose;
