@@ -9,11 +9,9 @@ use Rattle.arith.specs.Distance.{clamped}
 use Rattle.depth_table.specs.Table.{indexOf}
 use Rattle.depth_table.proofs.TableLaws.{table-counts}
 use Rattle.depth_table.proofs.IndexLaws.{index-below}
-use Rattle.pattern.specs.Size.{sizeOk}
 use Rattle.pattern.proofs.SizeLaws.{square-64}
-use Rattle.sides.specs.Sides.{sideDepth, sideCase, depthIn}
+use Rattle.sides.specs.Sides.{sideDepth}
 use Rattle.sides.proofs.CallLaws.{sides-accepted}
-use Rattle.sides.proofs.SideLaws.{depth-case, case-lt}
 use Rattle.offset.specs.Offset.{levelOf}
 use Rattle.side_cost.specs.Offset.{offset}
 use Rattle.side_cost.specs.Cost.{sideCost}
@@ -22,19 +20,15 @@ use Rattle.side_cost.specs.Trial.{TrialOf}
 use Rattle.side_cost.specs.Turn.{offsetCost, Findable}
 use Rattle.side_cost.proofs.FindLaws.{word-in, part-lt, part-cost}
 use Rattle.side_cost.proofs.TrialLaws.{trial-of-same}
+use Rattle.choice.specs.Cases.{sideCase, depthIn}
 use Rattle.choice.specs.Search.{trialCost}
 use Rattle.choice.specs.Picked.{blockCase, Weighable, Prepared}
+use Rattle.choice.proofs.CaseLaws.{depth-case}
 
 module _ (n w : ℕ) (s o t : List ℕ) (R : ℕ) (h : Weighable n w s o t R) where
   -- at most 64 samples
   pub few-samples : length o ≤ 64
   few-samples = omega (arith, h .square, square-64 (sides-accepted n w s (h .sides) .high))
-
-  -- the number of a partition's case
-  pub case-is : (m : Bool) {j : ℕ} → j ≡ cond (sizeOk n) (sideCase n w m) 8 → (j ≡ sideCase n w m) × (j < 8)
-  case-is m {j} e =
-      let q : j ≡ sideCase n w m = e ∙ rw (sides-accepted n w s (h .sides) .size) in
-      (q, omega (arith, case-lt n w m))
 
   module _ (below planes indices : List ℕ) (q : Prepared n s o t below planes indices) (bytes : (k : ℕ) → getD o k 0 < 256) where
     -- the word marks samples of the block only
@@ -52,7 +46,7 @@ module _ (n w : ℕ) (s o t : List ℕ) (R : ℕ) (h : Weighable n w s o t R) wh
       i = getD indices j 0
 
       index-is : i ≡ indexOf t (sideDepth n w s m)
-      index-is = q .index-at j hj ∙ ap (λ (x : ℕ). indexOf t (depthIn n s x)) ej ∙ ap (indexOf t) (sym (depth-case n w s m))
+      index-is = q .index-at j hj ∙ ap (λ (x : ℕ). indexOf t (depthIn n s x)) ej ∙ ap (indexOf t) (sym (depth-case n w s m (sides-accepted n w s (h .sides) .size)))
 
       part-is : part ≡ cond m w (belowWord (length o) o 256 - w)
       part-is = ep ∙ ap (λ (x : ℕ). cond m w (x - w)) all

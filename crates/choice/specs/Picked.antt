@@ -6,9 +6,9 @@ use mathlib.Core.List.{List, []}
 use lib.ListN.{length, getD}
 use Rattle.depth_table.specs.Table.{tableOk, indexOf}
 use Rattle.side_cost.specs.Layers.{Layered}
-use Rattle.sides.specs.Sides.{depthIn}
 use Rattle.sides.specs.Answer.{sidesRefusal}
 use Rattle.choice_checks.specs.Case.{Case, caseOf}
+use Rattle.choice.specs.Cases.{depthIn}
 use Rattle.choice.specs.Search.{bestTrial, bestCost, patternAt, bestPattern}
 
 -- a case without patterns: what the cost of one pattern depends on

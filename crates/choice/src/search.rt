@@ -13,6 +13,8 @@ ghost use Rattle.choice_checks.specs.Case.{caseOf};
 ghost use Rattle.choice_checks.specs.Refusal.{chooseRefusal};
 ghost use Rattle.choice.specs.Search.{trialCost};
 ghost use Rattle.choice.specs.Picked.{blockCase, Weighable, Prepared, CaseIndices, SidesOf, PickedOf};
+use crate::cases::case_depth;
+use crate::cases::side_case;
 use crate::layers::below_layers;
 use crate::layers::bit_layers;
 use crate::offsets::Trial;
@@ -28,7 +30,7 @@ fn case_indices(n: usize, border: &[u8], table: &[u8]) -> [usize; 8]
 {
     let mut indices = [0usize; 8];
     for k in 0..8 {
-        let index = depth_table::nearest_index(table, sides::case_depth(n, border, k));
+        let index = depth_table::nearest_index(table, case_depth(n, border, k));
         indices[k] = index.0;
     }
     indices
@@ -51,7 +53,7 @@ fn best_offset(
     ensures { λ r. ⌜ TrialOf (trialCost (blockCase n (now (border .entry)) (now (original .entry)) (now (table .entry)) reach) word side) (2 * reach) (r .number) (r .cost) × (r .cost ≤ 65280) ⌝ }
 {
     let part = side_word(below, word, side);
-    let k = sides::side_case(n, word, side);
+    let k = side_case(n, word, side);
     let at = indices[k];
     best_of_part(original, below, planes, part, table, DepthIndex(at), reach)
 }

@@ -1,6 +1,6 @@
 -- Laws of the side depths as the code reads them, and their range. Assumes nothing.
 use Prim.Native.Nat.{ℕ, _+_, _-_, _*_, _/_, _≤_, _<_}
-use mathlib.Core.Path.{_≡_, refl, sym, ap, _∙_}
+use mathlib.Core.Path.{_≡_, sym, ap, _∙_}
 use mathlib.Core.Bool.{Bool, true, false, cond}
 use mathlib.Core.List.{List}
 use native.Mathlib.Nat.{mul-le-mul, zero-mul, zero-add, add-zero}
@@ -8,10 +8,10 @@ use native.Mathlib.Omega.{arith}
 use lib.Dec.{ltb}
 use lib.ListN.{getD}
 use borrow.Author.Tests.{lt-ltb, le-ltb}
-use Rattle.arith.specs.Bits.{bit, testBit}
+use Rattle.arith.specs.Bits.{testBit}
 use Rattle.arith.specs.Distance.{dist}
 use Rattle.pattern.specs.Pattern.{mark}
-use Rattle.sides.specs.Sides.{leftAt, topAt, leftChange, topChange, differ, vertEdge, horEdge, ltBy, brBy, lt, br, sideDepth, sideCase, depthIn}
+use Rattle.sides.specs.Sides.{leftAt, topAt, leftChange, topChange, differ, vertEdge, horEdge, ltBy, brBy, lt, br, sideDepth}
 
 -- ---- the corners
 
@@ -89,38 +89,3 @@ module _ (n : ℕ) (s : List ℕ) (small : (i : ℕ) → getD s i 0 < 256) where
   pub sides-bytes : (w : ℕ) → (lt n w s < 256) × (br n w s < 256)
   unfolding lt br
   sides-bytes w = (ltBy-byte (vertEdge n w) (horEdge n w), brBy-byte (vertEdge n w) (horEdge n w))
-
--- ---- the cases by number
-
-case-depth : (n : ℕ) (s : List ℕ) (b v h : Bool) → cond b (brBy n s v h) (ltBy n s v h) ≡ depthIn n s (4 * bit b + (2 * bit v + bit h))
-unfolding depthIn
-case-depth n s true true true = refl
-case-depth n s true true false = refl
-case-depth n s true false true = refl
-case-depth n s true false false = refl
-case-depth n s false true true = refl
-case-depth n s false true false = refl
-case-depth n s false false true = refl
-case-depth n s false false false = refl
-
--- the depth of a partition is that of its case
-pub depth-case : (n w : ℕ) (s : List ℕ) (m : Bool) → sideDepth n w s m ≡ depthIn n s (sideCase n w m)
-unfolding sideDepth sideCase lt br
-depth-case n w s m = case-depth n s (differ m (mark n w 0 0)) (vertEdge n w) (horEdge n w)
-
--- the number as the code makes it, digit by digit
-pub case-by :
-    (n w : ℕ) (m : Bool) {a b d : ℕ} {x o v h : Bool} → a ≡ bit o → o ≡ differ m x → x ≡ testBit w 0 → b ≡ bit v → v ≡ vertEdge n w → d ≡ bit h
-    → h ≡ horEdge n w → 4 * a + (2 * b + d) ≡ sideCase n w m
-unfolding sideCase
-case-by n w m ea eo ex eb ev ed eh =
-    omega (arith, ea ∙ ap bit (eo ∙ ap (differ m) (ex ∙ sym (origin-bit n w))), eb ∙ ap bit ev, ed ∙ ap bit eh)
-
--- there are eight cases
-bit-le : (b : Bool) → bit b ≤ 1
-bit-le true = omega arith
-bit-le false = omega arith
-
-pub case-lt : (n w : ℕ) (m : Bool) → sideCase n w m < 8
-unfolding sideCase
-case-lt n w m = omega (arith, bit-le (differ m (mark n w 0 0)), bit-le (vertEdge n w), bit-le (horEdge n w))

@@ -1,10 +1,9 @@
 -- Document 01, "Side depths": the depths of the two partitions of a pattern. Assumes nothing.
-use Prim.Native.Nat.{ℕ, _+_, _-_, _*_, _/_, _%_}
+use Prim.Native.Nat.{ℕ, _+_, _-_, _*_, _/_}
 use mathlib.Core.Bool.{Bool, true, false, not, cond}
 use mathlib.Core.List.{List}
 use lib.ListN.{getD}
-use lib.Dec.{eqb, ltb}
-use Rattle.arith.specs.Bits.{bit}
+use lib.Dec.{ltb}
 use Rattle.arith.specs.Distance.{dist}
 use Rattle.pattern.specs.Pattern.{mark}
 
@@ -63,11 +62,3 @@ br n w s = brBy n s (vertEdge n w) (horEdge n w)
 -- the depth of the samples whose mark is m
 unfoldable pub sideDepth : ℕ → ℕ → List ℕ → Bool → ℕ
 sideDepth n w s m = cond (differ m (mark n w 0 0)) (br n w s) (lt n w s)
-
--- the cases by number: 4 for the side that does not hold (0,0), 2 for v, 1 for h
-unfoldable pub sideCase : ℕ → ℕ → Bool → ℕ
-sideCase n w m = 4 * bit (differ m (mark n w 0 0)) + (2 * bit (vertEdge n w) + bit (horEdge n w))
-
--- the depth in a case
-unfoldable pub depthIn : ℕ → List ℕ → ℕ → ℕ
-depthIn n s k = cond (ltb k 4) (ltBy n s (eqb (k / 2 % 2) 1) (eqb (k % 2) 1)) (brBy n s (eqb (k / 2 % 2) 1) (eqb (k % 2) 1))

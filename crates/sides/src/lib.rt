@@ -2,8 +2,6 @@
 mod sides;
 
 use depth_table::DepthValue;
-pub use sides::case_depth;
-pub use sides::side_case;
 pub use sides::side_depth;
 pub use sides::side_depths;
 

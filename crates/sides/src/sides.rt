@@ -1,14 +1,11 @@
 // The depths of the two partitions of a pattern, from the neighbours of its block.
 ghost use mathlib.Core.Path.{_≡_};
-ghost use mathlib.Core.Bool.{false, cond, _&&_};
+ghost use mathlib.Core.Bool.{false};
 ghost use Prim.Native.Nat.{_*_, _≤_, _<_};
-ghost use lib.Dec.{eqb};
 ghost use lib.ListN.{length, getD};
-ghost use Rattle.arith.specs.Bits.{bit};
 ghost use Rattle.arith.specs.Checks.{lent};
 ghost use Rattle.arith.specs.Distance.{dist};
-ghost use Rattle.pattern.specs.Size.{sizeOk};
-ghost use Rattle.sides.specs.Sides.{leftAt, topAt, differ, mean, vertEdge, horEdge, ltBy, brBy, lt, br, sideDepth, sideCase, depthIn};
+ghost use Rattle.sides.specs.Sides.{leftAt, topAt, differ, mean, vertEdge, horEdge, ltBy, brBy, lt, br, sideDepth};
 ghost use Rattle.sides.specs.Answer.{sidesRefusal, sidesAnswer, sidesTold};
 use crate::SideDepths;
 use depth_table::DepthValue;
@@ -174,42 +171,4 @@ pub fn side_depth(n: usize, word: u64, border: &[u8], m: bool) -> DepthValue
         return br_of(n, word, border);
     }
     lt_of(n, word, border)
-}
-
-// A truth value as a digit.
-fn digit(b: bool) -> usize
-    ensures { λ r. ⌜ (r ≡ bit b) × (r ≤ 1) ⌝ }
-{
-    if b { 1 } else { 0 }
-}
-
-// The number of the case of the samples with the mark m; 8, which is no case, where the size is not allowed.
-pub fn side_case(n: usize, word: u64, m: bool) -> usize
-    ensures { λ r. ⌜ r ≡ cond (sizeOk n) (sideCase n word m) 8 ⌝ }
-{
-    if !pattern::size_ok(n) {
-        return 8;
-    }
-    let other = differs(m, pattern::mark_at(word, 0));
-    let v = vert_edge(n, word);
-    let h = hor_edge(n, word);
-    4 * digit(other) + (2 * digit(v) + digit(h))
-}
-
-// The depth in a case, by its number; 0 where the size or the number of neighbours is not allowed.
-pub fn case_depth(n: usize, border: &[u8], k: usize) -> DepthValue
-    ensures { λ r. ⌜ r .0 ≡ cond (sizeOk n && eqb (length (now (border .entry))) (4 * n)) (depthIn n (now (border .entry)) k) 0 ⌝ }
-{
-    if !pattern::size_ok(n) {
-        return DepthValue(0);
-    }
-    if border.len() != 4 * n {
-        return DepthValue(0);
-    }
-    let v = k / 2 % 2 == 1;
-    let h = k % 2 == 1;
-    if k < 4 {
-        return DepthValue(lt_depth(n, v, h, border));
-    }
-    DepthValue(br_depth(n, v, h, border))
 }

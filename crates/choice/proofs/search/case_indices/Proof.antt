@@ -4,10 +4,9 @@ use borrow.Author.Needs.{needs}
 use Prim.Native.Nat.{_-_, _≤_}
 use mathlib.Core.Path.{_≡_, ap, _∙_}
 use lib.ListN.{length, length-set}
-use borrow.Author.Tests.{eq-eqb}
 use Rattle.arith.proofs.ListLaws.{stored}
 use Rattle.depth_table.specs.Table.{indexOf}
-use Rattle.sides.specs.Sides.{depthIn}
+use Rattle.choice.specs.Cases.{depthIn}
 use Rattle.choice.specs.Picked.{CaseIndices}
 use Rattle.choice.proofs.search.case_indices.Statement.{statement}
 use Rattle.choice.proofs.search.case_indices.Tie as tie
@@ -22,7 +21,7 @@ loop-holds : tie.Need-loop-holds Inv-loop μ-loop
 loop-holds c = search needs
 
 case-depth-requires : tie.Need-case-depth-requires Inv-loop μ-loop
-case-depth-requires c κs = tt
+case-depth-requires c κs = search needs
 
 nearest-index-requires : tie.Need-nearest-index-requires Inv-loop μ-loop
 nearest-index-requires c κs = tt
@@ -47,7 +46,7 @@ loop-again c =
       omega arith,
       simp length-set (l .inv .1),
       stored (λ k. indexOf (a .table .now) (depthIn (a .n) (a .border .now) k)) 0 (l .indices) (l .k) (c .nearest-index .result .0) (omega arith)
-          (c .nearest-index .ensures ∙ ap (indexOf (a .table .now)) (c .before .case-depth .ensures ∙ rw (s .pre .0, eq-eqb _ _ (s .pre .1)))) (l .inv .2),
+          (c .nearest-index .ensures ∙ ap (indexOf (a .table .now)) (c .before .case-depth .ensures)) (l .inv .2),
     )
 
 returns : tie.Need-returns Inv-loop μ-loop
