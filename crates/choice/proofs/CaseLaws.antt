@@ -61,8 +61,12 @@ pub case-by :
     → b ≡ bit (differ x y) → d ≡ bit (differ x z) → 4 * a + (2 * b + d) ≡ sideCase n w m
 unfolding sideCase
 case-by n w m ex ey ez ea eb ed =
-    omega (arith, ea ∙ ap (λ (t : Bool). bit (differ m t)) (ex ∙ sym (origin-bit n w)), eb ∙ ap bit (ap₂ differ ex ey ∙ sym (vert-edge-bits n w)),
-    ed ∙ ap bit (ap₂ differ ex ez ∙ sym (hor-edge-bits n w)))
+    omega (
+      arith,
+      ea ∙ ap (λ (t : Bool). bit (differ m t)) (ex ∙ sym (origin-bit n w)),
+      eb ∙ ap bit (ap₂ differ ex ey ∙ sym (vert-edge-bits n w)),
+      ed ∙ ap bit (ap₂ differ ex ez ∙ sym (hor-edge-bits n w)),
+    )
 
 -- the depth as the code looks it up, by the pattern of the case
 pub depth-by :

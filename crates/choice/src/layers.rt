@@ -2,7 +2,7 @@
 ghost use mathlib.Core.Path.{_≡_};
 ghost use Prim.Native.Nat.{_-_, _<_, _≤_};
 ghost use lib.ListN.{length};
-ghost use Rattle.side_cost.specs.Layers.{EqualLayers, BelowLayers, PlaneLayers, planeWord};
+ghost use Rattle.side_cost.specs.Layers.{EqualLayers, BelowLayers, BitPlanes, planeWord};
 
 // A byte as a place in a slice.
 pub(crate) fn wide(x: u8) -> usize
@@ -57,9 +57,9 @@ fn plane(samples: &[u8], b: usize) -> u64
 }
 
 // The samples that have each bit, the highest bit first.
-pub(crate) fn bit_layers(samples: &[u8]) -> [u64; 8]
+pub(crate) fn bit_planes(samples: &[u8]) -> [u64; 8]
     requires { ⌜ length (now samples) ≤ 64 ⌝ }
-    ensures { λ r. ⌜ PlaneLayers 8 (now (samples .entry)) r ⌝ }
+    ensures { λ r. ⌜ BitPlanes 8 (now (samples .entry)) r ⌝ }
 {
     let mut layers = [0u64; 8];
     for b in 0..8 {

@@ -76,8 +76,13 @@ fn best_up(
     at: usize,
     last: usize,
 ) -> Trial
-    requires { ⌜ Parted (now samples) (now below) (now planes) (part .word) (part .size) × (tableOk (now table) ≡ true) × (at < last) × (last < length (now table)) × (twice (now below) (part .word) (now table) 1 at < part .size) ⌝ }
-    ensures { λ r. ⌜ UpTried (now (samples .entry)) (now (below .entry)) (part .word) (part .size) (now (table .entry)) at last (r .number) (r .cost) × (r .cost ≤ 65280) ⌝ }
+    requires { ⌜ Parted (now samples) (now below) (now planes) (part .word) (part .size)
+        × (tableOk (now table) ≡ true)
+        × (at < last)
+        × (last < length (now table))
+        × (twice (now below) (part .word) (now table) 1 at < part .size) ⌝ }
+    ensures { λ r. ⌜ UpTried (now (samples .entry)) (now (below .entry)) (part .word) (part .size) (now (table .entry)) at last
+        (r .number) (r .cost) × (r .cost ≤ 65280) ⌝ }
 {
     let low = turn(below, part.word, part.size, table, 1, at, last);
     let next = low + 1;
@@ -113,8 +118,13 @@ fn best_down(
     at: usize,
     end: usize,
 ) -> Trial
-    requires { ⌜ Parted (now samples) (now below) (now planes) (part .word) (part .size) × (tableOk (now table) ≡ true) × (end < at) × (at < length (now table)) × (part .size < twice (now below) (part .word) (now table) 0 at) ⌝ }
-    ensures { λ r. ⌜ DownTried (now (samples .entry)) (now (below .entry)) (part .word) (part .size) (now (table .entry)) at end (r .number) (r .cost) × (r .cost ≤ 65280) ⌝ }
+    requires { ⌜ Parted (now samples) (now below) (now planes) (part .word) (part .size)
+        × (tableOk (now table) ≡ true)
+        × (end < at)
+        × (at < length (now table))
+        × (part .size < twice (now below) (part .word) (now table) 0 at) ⌝ }
+    ensures { λ r. ⌜ DownTried (now (samples .entry)) (now (below .entry)) (part .word) (part .size) (now (table .entry)) at end
+        (r .number) (r .cost) × (r .cost ≤ 65280) ⌝ }
 {
     let low = turn(below, part.word, part.size + 1, table, 0, end, at);
     let next = low + 1;
@@ -150,8 +160,11 @@ pub(crate) fn best_of_part(
     index: DepthIndex,
     reach: usize,
 ) -> Trial
-    requires { ⌜ Layered (now samples) (now below) (now planes) × (word < 2 ^ length (now samples)) × Findable (now table) (index .0) reach ⌝ }
-    ensures { λ r. ⌜ TrialOf (offsetCost (now (samples .entry)) word true (now (table .entry)) (index .0)) (2 * reach) (r .number) (r .cost) × (r .cost ≤ 65280) ⌝ }
+    requires { ⌜ Layered (now samples) (now below) (now planes)
+        × (word < 2 ^ length (now samples))
+        × Findable (now table) (index .0) reach ⌝ }
+    ensures { λ r. ⌜ TrialOf (offsetCost (now (samples .entry)) word true (now (table .entry)) (index .0)) (2 * reach)
+        (r .number) (r .cost) × (r .cost ≤ 65280) ⌝ }
 {
     let at = index.0;
     let size = u64::count_ones(word);

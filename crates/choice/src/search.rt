@@ -16,7 +16,7 @@ ghost use Rattle.choice.specs.Picked.{blockCase, Weighable, Prepared, Ca
 use crate::cases::case_depth;
 use crate::cases::side_case;
 use crate::layers::below_layers;
-use crate::layers::bit_layers;
+use crate::layers::bit_planes;
 use crate::offsets::Trial;
 use crate::offsets::best_of_part;
 use crate::parts::side_word;
@@ -49,8 +49,10 @@ fn best_offset(
     planes: &[u64; 8],
     indices: &[usize; 8],
 ) -> Trial
-    requires { ⌜ Weighable n word (now border) (now original) (now table) reach × Prepared n (now border) (now original) (now table) (now below) (now planes) (now indices) ⌝ }
-    ensures { λ r. ⌜ TrialOf (trialCost (blockCase n (now (border .entry)) (now (original .entry)) (now (table .entry)) reach) word side) (2 * reach) (r .number) (r .cost) × (r .cost ≤ 65280) ⌝ }
+    requires { ⌜ Weighable n word (now border) (now original) (now table) reach
+        × Prepared n (now border) (now original) (now table) (now below) (now planes) (now indices) ⌝ }
+    ensures { λ r. ⌜ TrialOf (trialCost (blockCase n (now (border .entry)) (now (original .entry)) (now (table .entry)) reach) word side)
+        (2 * reach) (r .number) (r .cost) × (r .cost ≤ 65280) ⌝ }
 {
     let part = side_word(below, word, side);
     let k = side_case(n, word, side);
@@ -77,8 +79,10 @@ fn best_sides(
     planes: &[u64; 8],
     indices: &[usize; 8],
 ) -> Sides
-    requires { ⌜ Weighable n word (now border) (now original) (now table) reach × Prepared n (now border) (now original) (now table) (now below) (now planes) (now indices) ⌝ }
-    ensures { λ r. ⌜ SidesOf (blockCase n (now (border .entry)) (now (original .entry)) (now (table .entry)) reach) word (r .trial0) (r .trial1) (r .cost) ⌝ }
+    requires { ⌜ Weighable n word (now border) (now original) (now table) reach
+        × Prepared n (now border) (now original) (now table) (now below) (now planes) (now indices) ⌝ }
+    ensures { λ r. ⌜ SidesOf (blockCase n (now (border .entry)) (now (original .entry)) (now (table .entry)) reach) word
+        (r .trial0) (r .trial1) (r .cost) ⌝ }
 {
     let unmarked = best_offset(
         n,
@@ -166,7 +170,7 @@ pub(crate) fn best_pattern(
     ensures { λ r. ⌜ PickedOf (caseOf n (now (list .entry)) count (now (border .entry)) (now (original .entry)) (now (table .entry)) reach (now (texture .entry))) (r .number) (r .trial0) (r .trial1) (r .cost) ⌝ }
 {
     let below = below_layers(original);
-    let planes = bit_layers(original);
+    let planes = bit_planes(original);
     let indices = case_indices(n, border, table);
     let contour = contour_or_none(n, texture);
     let end = last_pattern(count, texture.len()) + 1;

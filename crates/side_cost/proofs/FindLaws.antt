@@ -22,10 +22,10 @@ use Rattle.side_cost.specs.Cost.{sideCost}
 use Rattle.side_cost.specs.Tally.{sideSize, sideBelow}
 use Rattle.side_cost.specs.Layers.{belowWord, Parted}
 use Rattle.side_cost.specs.Trial.{Better, TrialOf}
-use Rattle.side_cost.specs.Turn.{twice, Turn, UpTried, DownTried, offsetCost, Findable}
+use Rattle.side_cost.specs.Turn.{Convex, BestLevel, twice, Turn, UpTried, DownTried, offsetCost, Findable}
 use Rattle.side_cost.proofs.LayerLaws.{below-count}
 use Rattle.side_cost.proofs.TallyLaws.{cost-step, below-step}
-use Rattle.side_cost.proofs.TurnLaws.{Convex, BestLevel, up-next, up-last, down-next, down-last, best-here, number-up, number-down}
+use Rattle.side_cost.proofs.TurnLaws.{up-next, up-last, down-next, down-last, best-here, number-up, number-down}
 
 -- what a partition costs is convex in the value
 pub side-convex : (c : ℕ) (samples : List ℕ) (w : ℕ) → Convex (sideCost c samples w true) (sideBelow c samples w true) (sideSize c samples w true)
@@ -181,11 +181,11 @@ module _ (samples below planes : List ℕ) (word size : ℕ) (q : Parted samples
       (eq-or-lt-of-le (let h : l + 1 ≤ i = omega (arith, t .high) in h)))
       b
 
-  -- no trial: the index itself
-  pub here-trial :
+  -- neither upward nor downward: the index itself
+  pub here-found :
       {cost : ℕ} → (hi ≤ i) ⊎ (size ≤ twice below word table 1 i) → (i ≤ lo) ⊎ (twice below word table 0 i ≤ size) → cost ≡ F i
       → TrialOf (offsetCost samples word true table i) (2 * R) 0 cost
-  here-trial u d ec =
+  here-found u d ec =
       trial-up
       (best-here (sideCost c samples word true) under size convex T count lo hi i rising (omega arith) hi-above hi-below
       (⊎-elim (λ e. inl e) (λ h. inr (omega (arith, twice-after i))) u)

@@ -5,8 +5,8 @@ use mathlib.Core.Bool.{Bool, true, false, cond, not, _&&_}
 use mathlib.Core.List.{List}
 use native.Mathlib.Nat.{mul-add, mul-zero, mod-lt, div-one, div-eq-of-lt, lt-of-le-of-lt, lt-of-lt-of-le, div-le-self}
 use native.Mathlib.Omega.{arith}
-use lib.Bits.{bitAnd, bitXor, differ, and-shr, and-step, and-le-l, and-lt, and-block, xor-shr, xor-step, xor-lt}
-use lib.Count.{ones, ones-cat}
+use lib.Bits.{bitAnd, bitXor, differ, and-shr, and-step, and-le-l, xor-shr, xor-step, xor-lt}
+use lib.Count.{ones}
 use lib.Dec.{eqb, ltb}
 use lib.ListN.{length, getD}
 use lib.Pow.{shr-shr}
@@ -96,11 +96,6 @@ module _ (c w : ℕ) (f : ℕ → Bool) (small : w < 2 ^ c) where
 
   pub common-ones : ones (bitAnd w (bits f c)) ≡ sumTo (λ k. bit (testBit w k && f k)) c
   common-ones = ones-bits c (bitAnd w (bits f c)) common-lt ∙ sum-ext _ _ c (λ k l. ap bit (common-bit k l))
-
--- a pattern of several words (request 1) is one number, and its shared bits are counted word by word; `xor-block` of lib.Bits inverts so
-pub common-join :
-    (k a b r s : ℕ) → r < 2 ^ k → s < 2 ^ k → ones (bitAnd (a * 2 ^ k + r) (b * 2 ^ k + s)) ≡ ones (bitAnd a b) + ones (bitAnd r s)
-common-join k a b r s hr hs = ap ones (and-block k a b r s hr hs) ∙ ones-cat k (bitAnd a b) (bitAnd r s) (and-lt k r s hr hs)
 
 and-true : (b : Bool) → b ≡ (b && true)
 and-true true = refl

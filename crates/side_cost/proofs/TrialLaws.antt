@@ -14,7 +14,7 @@ pub trial-of-same : {f g : ℕ → ℕ} {N at cost : ℕ} → ((t : ℕ) → f t
 trial-of-same {f} {g} {N} {at} e p =
     record { at-least = first-leastTo g (first-same (λ k l. e k) (trial-first p)); its-cost = p .its-cost ∙ e at }
 
--- ---- a trial that ends at the first cost of 0 (request 3): the numbers tried are 0 .. number where the best costs 0, else all of 0 .. N
+-- ---- offsets tried in order until one costs 0: the numbers tried are 0 .. number where the best costs 0, else all of 0 .. N
 
 -- before a best number of cost 0 nothing costs 0, so the trial ends there
 pub ends-there : {f : ℕ → ℕ} {N at : ℕ} → TrialOf f N at 0 → (f at ≡ 0) × ((t : ℕ) → t < at → 0 < f t)

@@ -12,20 +12,8 @@ use Rattle.arith.specs.Least.{First, leastTo}
 use Rattle.arith.proofs.LeastLaws.{last-or-below, first-leastTo}
 use Rattle.side_cost.specs.Offset.{trial, offset}
 use Rattle.side_cost.specs.Trial.{TrialOf}
+use Rattle.side_cost.specs.Turn.{Convex, BestLevel}
 use Rattle.side_cost.proofs.OffsetLaws.{offset-trial, trial-offset}
-
--- convex in the value: from v to v + 1 the cost changes by twice `below (v + 1)`, which does not fall, less `size`
-pub record Convex (cost below : ℕ → ℕ) (size : ℕ) : Type 0 where
-  pub step : (v : ℕ) → cost (suc v) + size ≡ cost v + 2 * below (suc v)
-  pub more : (v : ℕ) → below v ≤ below (suc v)
-
--- the level at j is the best of those at lo .. hi, and the first in the order of offsets from i
-pub record BestLevel (F : ℕ → ℕ) (lo hi i j : ℕ) : Type 0 where
-  pub low : lo ≤ j
-  pub high : j ≤ hi
-  pub least : (k : ℕ) → lo ≤ k → k ≤ hi → F j ≤ F k
-  pub above : i < j → (k : ℕ) → lo ≤ k → k < j → F j < F k
-  pub under : j < i → (k : ℕ) → j < k → k ≤ hi → F j < F k
 
 upto-or-past : (l k : ℕ) → (k ≤ l) ⊎ (l + 1 ≤ k)
 upto-or-past l k = go (decLe k l)

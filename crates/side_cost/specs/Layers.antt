@@ -27,14 +27,14 @@ EqualLayers c samples l = (length l ≡ 256) × ((v : ℕ) → v < 256 → getD 
 abbrev pub BelowLayers : ℕ → List ℕ → List ℕ → Type 0
 BelowLayers m samples l = (v : ℕ) → v < m → getD l v 0 ≡ belowWord (length samples) samples v
 
-abbrev pub PlaneLayers : ℕ → List ℕ → List ℕ → Type 0
-PlaneLayers m samples l = (b : ℕ) → b < m → getD l b 0 ≡ planeWord (length samples) samples (7 - b)
+abbrev pub BitPlanes : ℕ → List ℕ → List ℕ → Type 0
+BitPlanes m samples l = (b : ℕ) → b < m → getD l b 0 ≡ planeWord (length samples) samples (7 - b)
 
 -- all layers of a block
 pub record Layered (samples below planes : List ℕ) : Type 0 where
   pub few : length samples ≤ 64
   pub below-at : BelowLayers 257 samples below
-  pub plane-at : PlaneLayers 8 samples planes
+  pub plane-at : BitPlanes 8 samples planes
 
 -- a sample as it counts toward the cost at v: one below v counts from 255 down, which inverts its bits
 abbrev pub flipped : List ℕ → ℕ → ℕ → ℕ

@@ -1,5 +1,5 @@
--- Where the cost of a part turns along the table, and its cost by the number of an offset. Assumes nothing.
-use Prim.Native.Nat.{ℕ, _+_, _-_, _*_, _≤_, _<_}
+-- A partition's cost is convex in the depth value: where it turns along the table, and its cost by the number of an offset. Assumes nothing.
+use Prim.Native.Nat.{ℕ, suc, _+_, _-_, _*_, _≤_, _<_}
 use mathlib.Core.Path.{_≡_}
 use mathlib.Core.Bool.{Bool, true}
 use mathlib.Core.List.{List}
@@ -12,6 +12,19 @@ use Rattle.depth_table.specs.Table.{tableOk}
 use Rattle.side_cost.specs.Cost.{sideCost}
 use Rattle.side_cost.specs.Offset.{offset}
 use Rattle.side_cost.specs.Trial.{Better}
+
+-- the cost is convex in the depth value: from v to v + 1 it changes by twice `below (v + 1)`, which does not fall as v grows, less `size`
+pub record Convex (cost below : ℕ → ℕ) (size : ℕ) : Type 0 where
+  pub step : (v : ℕ) → cost (suc v) + size ≡ cost v + 2 * below (suc v)
+  pub more : (v : ℕ) → below v ≤ below (suc v)
+
+-- the level at j is the best of those at lo .. hi, and the first in the order of offsets from i
+pub record BestLevel (F : ℕ → ℕ) (lo hi i j : ℕ) : Type 0 where
+  pub low : lo ≤ j
+  pub high : j ≤ hi
+  pub least : (k : ℕ) → lo ≤ k → k ≤ hi → F j ≤ F k
+  pub above : i < j → (k : ℕ) → lo ≤ k → k < j → F j < F k
+  pub under : j < i → (k : ℕ) → j < k → k ≤ hi → F j < F k
 
 -- twice the samples of the word that are below the value at index j, plus 0 or 1
 abbrev pub twice : List ℕ → ℕ → List ℕ → ℕ → ℕ → ℕ

@@ -9,7 +9,7 @@ use Rattle.choice.proofs.cases.case_depth.Statement.{statement}
 use Rattle.choice.proofs.cases.case_depth.Tie as tie
 
 corner-word-requires : tie.Need-corner-word-requires
-corner-word-requires c κs = 
+corner-word-requires c κs =
     let s = c .before in
     let b = size-bounds (s .args .n) (s .pre .0) in
     (omega (arith, b), b .1)

@@ -12,7 +12,7 @@ use Rattle.side_cost.specs.Cost.{sideCost}
 use Rattle.side_cost.specs.Layers.{Parted}
 use Rattle.side_cost.specs.Turn.{twice}
 use Rattle.side_cost.proofs.LayerLaws.{size-count}
-use Rattle.side_cost.proofs.FindLaws.{twice-by, last-in, end-in, up-found, down-found, here-trial}
+use Rattle.side_cost.proofs.FindLaws.{twice-by, last-in, end-in, up-found, down-found, here-found}
 use Rattle.choice.proofs.offsets.best_of_part.Statement.{statement}
 use Rattle.choice.proofs.offsets.best_of_part.Tie as tie
 
@@ -142,7 +142,7 @@ returns-3 c =
     (λ x. inl (omega (arith, x .left, end)))
     (c .before .if3 .came)
     in (
-      here-trial _ _ _ _ _ (parted s) (a .table .now) (a .index .0) (a .reach) (s .pre .2) up down
+      here-found _ _ _ _ _ (parted s) (a .table .now) (a .index .0) (a .reach) (s .pre .2) up down
           (c .cost-at .ensures .0 ∙ ap (sideCost (length (a .samples .now)) (a .samples .now) (a .word) true) (w .wide .ensures .0)),
       c .cost-at .ensures .1,
     )

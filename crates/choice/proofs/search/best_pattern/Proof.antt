@@ -42,8 +42,8 @@ room c e = omega (arith, e, last-le (ltb 0 (length (c .args .texture .now))) (c 
 below-layers-requires : tie.Need-below-layers-requires Inv-loop μ-loop
 below-layers-requires c κs = few (c .before .before .before .before .before)
 
-bit-layers-requires : tie.Need-bit-layers-requires Inv-loop μ-loop
-bit-layers-requires c κs = few (c .before .before .before .before .before .before)
+bit-planes-requires : tie.Need-bit-planes-requires Inv-loop μ-loop
+bit-planes-requires c κs = few (c .before .before .before .before .before .before)
 
 case-indices-requires : tie.Need-case-indices-requires Inv-loop μ-loop
 case-indices-requires c κs =
@@ -53,10 +53,10 @@ case-indices-requires c κs =
 -- what is worked out once
 prepared : (c : tie.After-case-indices Inv-loop μ-loop) →
     let a = c .before .before .before .before .before .before .before .before .args in
-    Prepared (a .n) (a .border .now) (a .original .now) (a .table .now) (c .before .before .below-layers .result) (c .before .bit-layers .result) (c .case-indices .result)
+    Prepared (a .n) (a .border .now) (a .original .now) (a .table .now) (c .before .before .below-layers .result) (c .before .bit-planes .result) (c .case-indices .result)
 prepared c =
     record {
-      layers = record { few = few (c .before .before .before .before .before .before .before .before); below-at = c .before .before .below-layers .ensures; plane-at = c .before .bit-layers .ensures };
+      layers = record { few = few (c .before .before .before .before .before .before .before .before); below-at = c .before .before .below-layers .ensures; plane-at = c .before .bit-planes .ensures };
       index-at = c .case-indices .ensures;
     }
 
@@ -136,7 +136,7 @@ best-pattern-spec =
     Inv-loop
     μ-loop
     below-layers-requires
-    bit-layers-requires
+    bit-planes-requires
     case-indices-requires
     contour-or-none-requires
     last-pattern-requires

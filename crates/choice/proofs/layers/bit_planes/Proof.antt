@@ -1,16 +1,16 @@
--- `bit_layers` meets its contract: the first b layers are there. Assumes nothing.
+-- `bit_planes` meets its contract: the first b planes are there. Assumes nothing.
 use native.Mathlib.Omega.{arith}
 use borrow.Author.Needs.{needs}
 use Prim.Native.Nat.{_-_, _≤_}
 use mathlib.Core.Path.{_≡_, refl, _∙_}
 use lib.ListN.{length, length-set}
 use Rattle.arith.proofs.ListLaws.{stored}
-use Rattle.side_cost.specs.Layers.{planeWord, PlaneLayers}
-use Rattle.choice.proofs.layers.bit_layers.Statement.{statement}
-use Rattle.choice.proofs.layers.bit_layers.Tie as tie
+use Rattle.side_cost.specs.Layers.{planeWord, BitPlanes}
+use Rattle.choice.proofs.layers.bit_planes.Statement.{statement}
+use Rattle.choice.proofs.layers.bit_planes.Tie as tie
 
 abbrev Inv-loop : tie.InvT-loop
-Inv-loop samples layers₀ b₀ layers b = (b ≤ 8) × (length layers ≡ 8) × PlaneLayers b samples layers
+Inv-loop samples layers₀ b₀ layers b = (b ≤ 8) × (length layers ≡ 8) × BitPlanes b samples layers
 
 abbrev μ-loop : tie.MeasureT-loop
 μ-loop samples layers₀ b₀ layers b = 8 - b
@@ -50,8 +50,8 @@ returns c =
     let l = c .before .loop in
     λ b h. l .inv .2 b (omega arith)
 
-pub bit-layers-spec : {M : Type 1} → statement M
-bit-layers-spec =
+pub bit-planes-spec : {M : Type 1} → statement M
+bit-planes-spec =
     tie.close
     (tie.spec
     Inv-loop
