@@ -18,6 +18,7 @@
 PLAIN(O2)
 PLAIN(O3)
 CHOOSE(fast_choose)
+size_t fast_list(size_t, uint64_t *);
 
 /* The choice with the list lent, of libfile_calls.a. */
 depth_bench_choice file_calls_choose(size_t n, const uint64_t *list, size_t list_len, size_t count, const uint8_t *border,
@@ -56,7 +57,7 @@ static depth_bench_choice choose_with(int who, int built, size_t n, uint32_t rea
     size_t c = count;
     if (who == BENCH && built) return depth_bench_choose(n, b, 4 * n, o, n * n, v, table.len, reach, t, n * n);
     if (who == BENCH) return file_calls_choose(n, list, LIST, count, b, 4 * n, o, n * n, v, table.len, reach, t, n * n);
-    if (built) c = who == PLAIN2 ? plain_list_O2(n, own) : plain_list_O3(n, own);
+    if (built) c = who == PLAIN2 ? plain_list_O2(n, own) : who == PLAIN3 ? plain_list_O3(n, own) : fast_list(n, own);
     switch (who) {
     case PLAIN2: return plain_choose_O2(n, l, c, b, o, v, table.len, reach, t);
     case PLAIN3: return plain_choose_O3(n, l, c, b, o, v, table.len, reach, t);
@@ -74,21 +75,24 @@ static int agree(size_t n, uint32_t reach) {
     return 1;
 }
 
-/* Seconds for one choice. */
-static double choice_round(int who, int built, size_t n, uint32_t reach) {
-    int repeat = who == PLAIN2 || who == PLAIN3 ? 1 : 8;
-    double start = now();
-    for (int r = 0; r < repeat; r++) for (int i = 0; i < 4; i++) check += choose_with(who, built, n, reach, i).cost;
-    return (now() - start) / (4 * repeat);
-}
-
-/* The least of several rounds for each, taken in turn. */
-static void choice_times(int built, size_t n, uint32_t reach, double best[4]) {
-    for (int who = BENCH; who <= SAME; who++) best[who] = 1e9;
-    for (int r = 0; r < 9; r++) for (int who = BENCH; who <= SAME; who++) {
-        if (r >= 2 && (who == PLAIN2 || who == PLAIN3)) continue;
-        double spent = choice_round(who, built, n, reach);
-        if (spent < best[who]) best[who] = spent;
+/* Seconds for one choice by each: the mean over the blocks of the least of several rounds. The plain loops take two blocks, the others all
+   in turn, so that no branch is learnt by heart. */
+static void choice_times(int built, size_t n, uint32_t reach, double mean[4]) {
+    static double least[4][BLOCKS];
+    for (int who = BENCH; who <= SAME; who++) for (int i = 0; i < BLOCKS; i++) least[who][i] = 1e9;
+    for (int r = 0; r < 12; r++) for (int who = BENCH; who <= SAME; who++) {
+        int plain = who == PLAIN2 || who == PLAIN3;
+        for (int i = 0; i < (plain ? r < 3 ? 2 : 0 : BLOCKS); i++) {
+            double start = now();
+            check += choose_with(who, built, n, reach, i).cost;
+            double spent = now() - start;
+            if (spent < least[who][i]) least[who][i] = spent;
+        }
+    }
+    for (int who = BENCH; who <= SAME; who++) {
+        int blocks = who == PLAIN2 || who == PLAIN3 ? 2 : BLOCKS;
+        mean[who] = 0;
+        for (int i = 0; i < blocks; i++) mean[who] += least[who][i] / blocks;
     }
 }
 
@@ -130,11 +134,11 @@ static int choices(int built) {
         printf("| n = %zu, %zu value%s |", n, counts[c], counts[c] == 1 ? "" : "s");
         inputs(n, counts[c]);
         for (int r = 0; r < 3; r++) {
-            double best[4];
+            double mean[4];
             if (!agree(n, reaches[r])) { printf("\nanswers differ\n"); return 0; }
-            choice_times(built, n, reaches[r], best);
-            printf(" %.1f (%.4f, %.4f, %.2f) |", 1e6 * best[BENCH], best[BENCH] / best[PLAIN2], best[BENCH] / best[PLAIN3],
-                best[BENCH] / best[SAME]);
+            choice_times(built, n, reaches[r], mean);
+            printf(" %.1f (%.4f, %.4f, %.2f) |", 1e6 * mean[BENCH], mean[BENCH] / mean[PLAIN2], mean[BENCH] / mean[PLAIN3],
+                mean[BENCH] / mean[SAME]);
         }
         printf("\n");
     }

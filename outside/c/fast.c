@@ -1,6 +1,6 @@
-/* The choice by the bench's own method, in C, to compare speeds with; for sound input only. Once a block: the index of the depth in each
-   of the eight cases, the word of the samples below each value, and the bit planes of the samples. A side's cost is convex in the value,
-   so the turn along the table is found by halving, and the best level is there or one step further. */
+/* The edge list and the choice by the bench's own method, in C, to compare speeds with; for sound input only. Once a block: the index of
+   the depth in each of the eight cases, the word of the samples below each value, and the bit planes of the samples. A side's cost is convex
+   in the value, so the turn along the table is found by halving, and the best level is there or one step further. */
 #include "fast.h"
 
 typedef struct { uint64_t below[257], planes[8]; size_t index[8]; } prepared;
@@ -105,4 +105,35 @@ depth_bench_choice fast_choose(size_t n, const uint64_t *list, size_t count, con
                 unmarked.cost + marked.cost };
     }
     return best;
+}
+
+static size_t point_x(size_t n, size_t k) {
+    size_t m = n - 1;
+    return k < m ? k : k < 2 * m ? m : k < 3 * m ? 3 * m - k : 0;
+}
+
+static size_t point_y(size_t n, size_t k) {
+    size_t m = n - 1;
+    return k < m ? 0 : k < 2 * m ? k - m : k < 3 * m ? m : k < 4 * m ? 4 * m - k : 0;
+}
+
+static uint64_t word_of(size_t n, size_t s, size_t e) {
+    size_t xs = point_x(n, s), ys = point_y(n, s), xe = point_x(n, e), ye = point_y(n, e);
+    uint64_t word = 0;
+    for (size_t i = 0; i < n * n; i++) {
+        size_t x = i % n, y = i / n;
+        word |= (uint64_t)(ys * xe + ye * x + y * xs < xs * ye + xe * y + x * ys) << i;
+    }
+    return word & 1 ? (UINT64_MAX >> (64 - n * n)) - word : word;
+}
+
+size_t fast_list(size_t n, uint64_t *list) {
+    size_t last = 4 * (n - 1), count = 0;
+    for (size_t s = 0; s < last; s++) for (size_t e = 0; e < last; e++) {
+        uint64_t word = e == s ? 0 : word_of(n, s, e);
+        size_t k = 0;
+        while (k < count && list[k] != word) k++;
+        if (word != 0 && k == count) list[count++] = word;
+    }
+    return count;
 }

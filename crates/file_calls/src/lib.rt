@@ -156,8 +156,8 @@ pub extern "C" fn file_calls_choose(
             off1: best.off1,
             cost: best.cost,
         },
-        Choice::Refused(number) => FileChosen {
-            refusal: wide(number),
+        Choice::Refused(refusal) => FileChosen {
+            refusal: wide(refusal),
             kind: 0,
             entry: 0,
             off0: 0,
