@@ -22,6 +22,7 @@ use Rattle.sheet_neighbours.proofs.SourceLaws.{leftSource, topSource, s
 
 -- a block at (x, y) whose neighbours are those of its counts
 module _ (n w x y : ℕ) (s : List ℕ) (some : 1 ≤ n) (by-counts : neighboursAt n w x y s ≡ counted n w x y (leftCount n x) (topCount n w x y) s) where
+  -- neighbour i
   neighbour-at : (i : ℕ) → i < 4 * n → getD (neighboursAt n w x y s) i 0 ≡ readFrom s (sourceAt n w x y i)
   unfolding counted
   neighbour-at i h = ap (λ (l : List ℕ). getD l i 0) by-counts ∙ listOf-at _ 0 (4 * n) i h
@@ -88,6 +89,7 @@ module _ (n w x y : ℕ) (s : List ℕ) (some : 1 ≤ n) (by-counts : neighbours
         min-low (n - 1) (n - 1) (omega arith),
       )
 
+  -- document 01's cases
   cases : NeighbourCases n w x y s
   cases =
       record {

@@ -44,7 +44,7 @@ module _ (w x y l t i : ℕ) where
 in-rows : (w samples c r rows : ℕ) → c < w → r < rows → rows * w ≤ samples → place w c r < samples
 in-rows w samples c r rows hc hr h = omega (arith, digits-lt {q = r} {m = rows} {r = c} {c = w} hr hc)
 
--- what is read are samples that are lent
+-- what the counts name can be read: place j of a run below its count, and the first place
 module _ {w samples x y l t : ℕ} (p : RunsInside w samples x y l t) where
   pub left-read : (j : ℕ) → 0 < l → j < l → place w (x - 1) (y + j) < samples
   left-read j h b = let q = p .left h in in-rows w samples (x - 1) (y + j) (y + l) (omega arith) (omega arith) (q .2)
@@ -58,7 +58,7 @@ module _ {w samples x y l t : ℕ} (p : RunsInside w samples x y l t) where
   pub top-first-read : 0 < t → place w x (y - 1) < samples
   top-first-read h = let q = p .top h in in-rows w samples x (y - 1) y (omega arith) (omega arith) (q .2)
 
-  -- the rows are few
+  -- the samples are at least as many as the left run's last row is far down
   pub left-rows : 0 < l → y + l ≤ samples
   left-rows h = let q = p .left h in omega (arith, le-mul-of-pos-right {m = w} (y + l) (omega arith))
 

@@ -17,9 +17,10 @@ use Rattle.sheet_neighbours.specs.Neighbours.{Source, sample, nowhere, r
 use Rattle.sheet_neighbours.specs.Laws.{SameBefore, SampleBefore}
 use Rattle.sheet_neighbours.proofs.HoldingLaws.{present-before}
 
--- ---- what holds of every place of a walk holds of the filled walk
+-- ---- what holds of every place of a walk, and of nowhere, holds after substitution
 
 module _ (P : Source → Type 0) (none : P nowhere) where
+  -- the definitions of substitution, one by one
   or-all : (a b : Source) → P a → P b → P (orElse a b)
   or-all (sample j) b p q = p
   or-all nowhere b p q = q
@@ -29,12 +30,13 @@ module _ (P : Source → Type 0) (none : P nowhere) where
   first-all f zero h = none
   first-all f (suc m) h = or-all (firstPresent f m) (f m) (first-all f m h) (h m)
 
-  filled-all : (z : Source) (f : ℕ → Source) (i : ℕ) → P z → ((j : ℕ) → P (f j)) → P (substitutedBy z f i)
+  substituted-all : (z : Source) (f : ℕ → Source) (i : ℕ) → P z → ((j : ℕ) → P (f j)) → P (substitutedBy z f i)
   unfolding substitutedBy
-  filled-all z f zero p h = or-all (f 0) z (h 0) p
-  filled-all z f (suc i) p h = or-all (f (suc i)) (substitutedBy z f i) (h (suc i)) (filled-all z f i p h)
+  substituted-all z f zero p h = or-all (f 0) z (h 0) p
+  substituted-all z f (suc i) p h = or-all (f (suc i)) (substitutedBy z f i) (h (suc i)) (substituted-all z f i p h)
 
   module _ (n w : ℕ) (present : ℕ → ℕ → Bool) (x y : ℕ) (here : (c r : ℕ) → present c r ≡ true → P (sample (place w c r))) where
+    -- the walk, where it holds of every sample that is present
     seen : (t : Bool) (own : Source) → (t ≡ true → P own) → P (cond t own nowhere)
     seen true own h = h refl
     seen false own h = none
@@ -61,7 +63,7 @@ module _ (P : Source → Type 0) (none : P nowhere) where
     -- a neighbour is read where a sample is present, or nowhere
     pub walked-all : (i : ℕ) → P (substituted n w present x y i)
     unfolding substituted
-    walked-all i = filled-all _ (walk n w present x y) i (first-all (walk n w present x y) (4 * n + 1) walk-all) walk-all
+    walked-all i = substituted-all _ (walk n w present x y) i (first-all (walk n w present x y) (4 * n + 1) walk-all) walk-all
 
 -- ---- the blocks of a sheet
 
