@@ -36,7 +36,8 @@ pub struct Choice {
     pub cost: u32,
 }
 
-// The words of a pattern: bit y * n + x of word 0 is the mark of sample (x, y), and words 1 to 3 are 0; or the number of the refusal beside 0.
+// The words of a pattern: bit y * n + x of word 0 is the mark of sample (x, y), and words 1 to 3 are 0; or the number of the refusal beside
+// zeros.
 #[repr(C)]
 pub struct Pattern {
     pub refusal: u32,
@@ -104,8 +105,8 @@ fn told(answer: choice::Choice) -> Choice
     }
 }
 
-// The refusal of a choice with the wedgelet list for n, before it is built: of a list the checks see only whether its words fit the block, so
-// that one word without marks stands for it.
+// The refusal of a choice with the wedgelet list for n, before it is built: of a list the checks see only whether there is one and whether
+// its words fit the block, so that one word without marks stands for it.
 fn built_refusal(
     n: usize,
     border: &[u8],
@@ -114,13 +115,16 @@ fn built_refusal(
     reach: u32,
     texture: &[u8],
 ) -> u8
-    ensures { λ r. ⌜ r ≡ chooseRefusal (builtCase n (now (border .entry)) (now (original .entry)) (now (table .entry)) reach (now (texture .entry))) ⌝ }
+    ensures { λ r.
+        let C = builtCase n (now (border .entry)) (now (original .entry)) (now (table .entry)) reach (now (texture .entry)) in
+        ⌜ r ≡ chooseRefusal C ⌝ }
 {
     let one = [0u64; 1];
     choice_checks::choose_refusal(n, &one, 1, border, original, table, reach, texture)
 }
 
-// The record of least cost, with the wedgelet list for n, as `choice::choose` finds it. What is refused is refused before the list is built.
+// The record of least cost, with the wedgelet list for n, as `choice::choose` finds it. What is refused is refused before the list is
+// built.
 #[no_mangle]
 pub extern "C" fn depth_bench_choose(
     n: usize,
@@ -130,8 +134,12 @@ pub extern "C" fn depth_bench_choose(
     reach: u32,
     texture: &[u8],
 ) -> Choice
-    ensures answered { λ r. ⌜ r ≡ choiceStruct (chooseAnswer (builtCase n (now (border .entry)) (now (original .entry)) (now (table .entry)) reach (now (texture .entry)))) ⌝ }
-    ensures least { λ r. ⌜ LeastChoice (builtCase n (now (border .entry)) (now (original .entry)) (now (table .entry)) reach (now (texture .entry))) r ⌝ }
+    ensures answered { λ r.
+        let C = builtCase n (now (border .entry)) (now (original .entry)) (now (table .entry)) reach (now (texture .entry)) in
+        ⌜ r ≡ choiceStruct (chooseAnswer C) ⌝ }
+    ensures least { λ r.
+        let C = builtCase n (now (border .entry)) (now (original .entry)) (now (table .entry)) reach (now (texture .entry)) in
+        ⌜ LeastChoice C r ⌝ }
 {
     let refusal = built_refusal(n, border, original, table, reach, texture);
     if refusal != 0 {
@@ -206,7 +214,9 @@ fn wedgelet_pattern(n: usize, entry: u32) -> Pattern
 // The contour of the texture; or refusal 7 or 21.
 fn contour_pattern(n: usize, entry: u32, texture: &[u8]) -> Pattern
     requires { ⌜ (sizeOk n ≡ true) × (textureOk (length (now texture)) (n * n) ≡ true) ⌝ }
-    ensures { λ r. ⌜ r ≡ patternStruct (answer (unless (eqb entry 0) 7 (unless (textured (now (texture .entry))) 21 0)) (contourOf n (now (texture .entry)))) ⌝ }
+    ensures { λ r.
+        let refusal = unless (eqb entry 0) 7 (unless (textured (now (texture .entry))) 21 0) in
+        ⌜ r ≡ patternStruct (answer refusal (contourOf n (now (texture .entry)))) ⌝ }
 {
     if entry != 0 {
         return no_pattern(7);

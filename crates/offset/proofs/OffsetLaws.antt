@@ -1,6 +1,6 @@
 -- Offsets as the code holds them. A signed local is known by its bits, so the code's offset is b = toZ w32 (ofZ w32 z) for the
 -- parameter z, and b ≡ z by `toZ-ofZ`. `mag z` is n both for n and for -(n + 1). Assumes nothing.
-use Prim.Native.Nat.{ℕ, suc, _+_, _-_, _<_, _^_, min}
+use Prim.Native.Nat.{ℕ, suc, _+_, _-_, _≤_, _<_, _^_, min}
 use mathlib.Core.Path.{_≡_, refl, sym, ap, _∙_}
 use mathlib.Core.Bool.{true, false}
 use native.Mathlib.Omega.{arith}
@@ -15,17 +15,17 @@ use Rattle.arith.specs.Distance.{clamped}
 use Rattle.arith.proofs.Bools.{clash}
 use Rattle.offset.specs.Offset.{offsetOk}
 
--- ---- the range, by the tests `off < -255` and `off > 255`
+-- ---- the range, by the tests `off < -255` and `off > 255`: past a bound that is no nearer to 0 an offset is out of range
 
-low-at : (z : ℤ) → ltZ z (negsuc 254) ≡ true → false ≡ offsetOk z
+low-at : (m : ℕ) (z : ℤ) → ltZ z (negsuc m) ≡ true → 254 ≤ m → false ≡ offsetOk z
 unfolding offsetOk
-low-at (pos k) h = clash (sym h)
-low-at (negsuc k) h = sym (lt-leb (suc k) 255 (omega (arith, ltb-true 254 k h)))
+low-at m (pos k) h l = clash (sym h)
+low-at m (negsuc k) h l = sym (lt-leb (suc k) 255 (omega (arith, ltb-true m k h)))
 
-high-at : (z : ℤ) → ltZ (pos 255) z ≡ true → false ≡ offsetOk z
+high-at : (m : ℕ) (z : ℤ) → ltZ (pos m) z ≡ true → 255 ≤ m → false ≡ offsetOk z
 unfolding offsetOk
-high-at (pos k) h = sym (lt-leb k 255 (omega (arith, ltb-true 255 k h)))
-high-at (negsuc k) h = clash (sym h)
+high-at m (pos k) h l = sym (lt-leb k 255 (omega (arith, ltb-true m k h)))
+high-at m (negsuc k) h l = clash (sym h)
 
 within-at : (z : ℤ) → ltZ z (negsuc 254) ≡ false → ltZ (pos 255) z ≡ false → true ≡ offsetOk z
 unfolding offsetOk
@@ -57,11 +57,11 @@ up-steps-at (pos k) h = refl
 up-steps-at (negsuc k) h = clash h
 
 module _ {z b : ℤ} (e : b ≡ z) where
-  pub low : ltZ b (negsuc 254) ≡ true → false ≡ offsetOk z
-  low h = low-at z (rw e at h)
+  pub low : {m : ℕ} → ltZ b (negsuc m) ≡ true → 254 ≤ m → false ≡ offsetOk z
+  low {m} h l = low-at m z (rw e at h) l
 
-  pub high : ltZ (pos 255) b ≡ true → false ≡ offsetOk z
-  high h = high-at z (rw e at h)
+  pub high : {m : ℕ} → ltZ (pos m) b ≡ true → 255 ≤ m → false ≡ offsetOk z
+  high {m} h l = high-at m z (rw e at h) l
 
   pub within : ltZ b (negsuc 254) ≡ false → ltZ (pos 255) b ≡ false → true ≡ offsetOk z
   within l h = within-at z (rw e at l) (rw e at h)

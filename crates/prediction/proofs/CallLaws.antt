@@ -9,10 +9,10 @@ use lib.IntN.{ℤ}
 use lib.ListN.{length}
 use borrow.Author.Tests.{eqb-true, ltb-true, lt-ltb}
 use Rattle.arith.specs.Bits.{bit, testBit}
-use Rattle.arith.specs.Checks.{given}
+use Rattle.arith.specs.Checks.{refused, given}
 use Rattle.arith.specs.Sum.{sumTo}
 use Rattle.arith.proofs.Bools.{both-of}
-use Rattle.arith.proofs.CheckLaws.{passed, given-means}
+use Rattle.arith.proofs.CheckLaws.{passed, answer-refused, lent-refused, given-means}
 use Rattle.depth_table.specs.Table.{tableOk}
 use Rattle.pattern.specs.Size.{sizeOk, wordOk}
 use Rattle.pattern.proofs.PatternLaws.{marks-counted}
@@ -20,13 +20,23 @@ use Rattle.pattern.proofs.SizeLaws.{size-bounds}
 use Rattle.sides.specs.Answer.{sidesRefusal}
 use Rattle.sides.proofs.CallLaws.{sides-pass}
 use Rattle.offset.specs.Offset.{offsetOk}
-use Rattle.prediction.specs.Answer.{lengthsOk, predictRefusal, predictAnswer}
+use Rattle.prediction.specs.Answer.{lengthsOk, predictRefusal, predictAnswer, predictBlock}
 
 -- the checks of offsets that are read from their bits
 pub offsets-read :
     (n w neighbours : ℕ) (t : List ℕ) (samples : ℕ) {number : ℕ} {off0 off1 y z : ℤ}
     → y ≡ off0 → z ≡ off1 → number ≡ predictRefusal n w neighbours t y z samples → number ≡ predictRefusal n w neighbours t off0 off1 samples
 offsets-read n w neighbours t samples e f p = p ∙ ap₂ (λ (x y : ℤ). predictRefusal n w neighbours t x y samples) e f
+
+-- where a check fails, its number is answered and the lent block stays as it was
+pub refusal-leaves :
+    (n w : ℕ) (s t held : List ℕ) {number : ℕ} {off0 off1 y z : ℤ}
+    → number ≡ predictRefusal n w (length s) t y z (length held) → y ≡ off0 → z ≡ off1 → (number ≡ 0 → ⊥)
+    → (refused number ≡ predictAnswer n w s t off0 off1 (length held)) × (held ≡ predictBlock n w s t off0 off1 held)
+unfolding predictAnswer predictBlock
+refusal-leaves n w s t held p e f h =
+    let q = offsets-read n w (length s) t (length held) e f p in
+    (rw (← q) (answer-refused _ _ h), rw (← q) (lent-refused _ _ _ h))
 
 -- `predict` refuses nothing
 pub record PredictAccepted (n w neighbours : ℕ) (t : List ℕ) (off0 off1 : ℤ) (samples : ℕ) : Type 0 where

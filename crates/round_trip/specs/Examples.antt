@@ -15,7 +15,7 @@ use Rattle.prediction.specs.Block.{sampleOf, predicted}
 use Rattle.side_cost.specs.Cost.{sideCost}
 use Rattle.choice_checks.specs.Refusal.{wordsOk}
 use Rattle.choice.specs.Search.{bestCost, bestPattern, chosen}
-use Rattle.sheet_neighbours.specs.Neighbours.{leftSource, topSource, neighboursAt}
+use Rattle.sheet_neighbours.specs.Neighbours.{firstPresent, substitutedBy, substituted, walked}
 use Rattle.sheet_blocks.specs.Samples.{written, cut}
 use Rattle.sheet_checks.specs.Checks.{lengthsOkBy, openRefusalBy}
 use Rattle.sheet.specs.State.{stateOf}
@@ -45,5 +45,5 @@ pub record ComposedSample : Type 0 where
   pub samples : samplesComposed (stateOf 4 8 4 0) sampleTask sampleLent ≡ twoBlocks
 
 pub composed-sample : ComposedSample
-unfolding clamped listOf nearestTo indexOf vertEdge horEdge ltBy brBy lt br sideDepth levelOf sampleOf predicted leastTo sumTo sideCost bestCost bestPattern chosen leftSource topSource neighboursAt written cut placedSamples composedTo bytes rising tableOk wordsOk lengthsOkBy openRefusalBy over composeLengthsOk choiceRefusal composeRefusal composeAnswer composeAfter composeField
+unfolding clamped listOf nearestTo indexOf vertEdge horEdge ltBy brBy lt br sideDepth levelOf sampleOf predicted leastTo sumTo sideCost bestCost bestPattern chosen firstPresent substitutedBy substituted walked written cut placedSamples composedTo bytes rising tableOk wordsOk lengthsOkBy openRefusalBy over composeLengthsOk choiceRefusal composeRefusal composeAnswer composeAfter composeField
 composed-sample = record { answer = refl; records = refl; samples = refl }

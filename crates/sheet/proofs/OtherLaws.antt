@@ -99,7 +99,7 @@ module _ (S : Sheet) (o : Open S) where
       → predictionOf (placeCase S M s) r ≡ predictionOf (placeCase S M t) r
   predicted-same M s t r same =
       ap (λ (b : List ℕ). predictionOf (caseOf (S .n) (M .list) (M .count) b [] (M .table) 0 (nextTexture S (M .texture))) r)
-      (neighbours-same (S .n) (S .width) (S .height) (S .placed) positive-n (o .wide) (o .missing) s t same)
+      (neighbours-same (S .n) (S .width) (S .height) (S .placed) positive-n (o .missing) s t same)
 
   -- and are then the same in the next block too
   pub placed-same :

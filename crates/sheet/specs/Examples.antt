@@ -16,7 +16,7 @@ use Rattle.prediction.specs.Block.{sampleOf, predicted}
 use Rattle.side_cost.specs.Cost.{sideCost}
 use Rattle.choice.specs.Record.{Record}
 use Rattle.choice.specs.Search.{bestCost, bestPattern, chosen}
-use Rattle.sheet_neighbours.specs.Neighbours.{leftSource, topSource, neighboursAt}
+use Rattle.sheet_neighbours.specs.Neighbours.{firstPresent, substitutedBy, substituted, walked}
 use Rattle.sheet_blocks.specs.Samples.{written, cut}
 use Rattle.sheet_checks.specs.Checks.{lengthsOkBy, openRefusalBy}
 use Rattle.sheet.specs.State.{stateOf}
@@ -41,7 +41,7 @@ sampleRecord = recordOf 0 0 (negsuc 0) (pos 1)
 -- the samples that `show` prints
 pub sample-placed :
     placedSamples (oneBlock 0) sampleMaterial (replicate 16 0) sampleRecord ≡ replicate 4 100 ++ replicate 12 140
-unfolding clamped listOf nearestTo indexOf vertEdge horEdge ltBy brBy lt br sideDepth levelOf sampleOf predicted leftSource topSource neighboursAt written placedSamples
+unfolding clamped listOf nearestTo indexOf vertEdge horEdge ltBy brBy lt br sideDepth levelOf sampleOf predicted firstPresent substitutedBy substituted walked written placedSamples
 sample-placed = refl
 
 -- the checks of placing in order, each with the later ones failing too
@@ -98,5 +98,5 @@ pub record Composing : Type 0 where
   pub composed : composedTo (stateOf 4 8 4 0) sampleTask (replicate 32 0) 2 ≡ twoBlocks
 
 pub composing : Composing
-unfolding clamped listOf nearestTo indexOf vertEdge horEdge ltBy brBy lt br sideDepth levelOf sampleOf predicted leastTo sumTo sideCost bestCost bestPattern chosen leftSource topSource neighboursAt written cut placedSamples composedTo
+unfolding clamped listOf nearestTo indexOf vertEdge horEdge ltBy brBy lt br sideDepth levelOf sampleOf predicted leastTo sumTo sideCost bestCost bestPattern chosen firstPresent substitutedBy substituted walked written cut placedSamples composedTo
 composing = record { first = refl; second = refl; composed = refl }

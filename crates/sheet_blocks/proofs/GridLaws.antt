@@ -1,6 +1,6 @@
 -- Laws of blocks and where they lie. Assumes nothing.
 use Prim.Native.Nat.{ℕ, suc, _+_, _-_, _*_, _/_, _%_, _^_, _≤_, _<_}
-use native.Mathlib.Nat.{mul-le-mul, mul-le-mul-right, suc-mul, mod-lt, mod-zero, mod-le, div-zero, zero-mul, div-mul-le-self, div-le-self, div-lt-iff-lt-mul, le-div-iff-mul-le, le-mul-of-pos-right, mul-comm}
+use native.Mathlib.Nat.{mul-le-mul, mul-le-mul-right, suc-mul, mod-lt, mod-zero, div-zero, zero-mul, div-mul-le-self, div-le-self, div-lt-iff-lt-mul, le-div-iff-mul-le, le-mul-of-pos-right, mul-comm}
 use native.Mathlib.Omega.{arith}
 use mathlib.Core.Bool.{true}
 use mathlib.Core.Path.{_≡_}
@@ -106,16 +106,6 @@ pub area-fits : {a b : ℕ} → a < 2 ^ 32 → b < 2 ^ 32 → a * b < 2 ^ 64
 area-fits {a} {b} ha hb =
     let l : a * b ≤ (2 ^ 32 - 1) * (2 ^ 32 - 1) = mul-le-mul {n₁ = a} {m₁ = b} {n₂ = 2 ^ 32 - 1} {m₂ = 2 ^ 32 - 1} (omega arith) (omega arith) in
     omega arith
-
--- a column and a row, for numbers of 32 bits
-pub column-word : (n w k : ℕ) → n < 2 ^ 32 → k < 2 ^ 32 → blockX n w k < 2 ^ 64
-column-word n w k hn hk = area-fits {a = k % (w / n)} {b = n} (omega (arith, mod-le k (w / n))) hn
-
-pub row-word : (n w k : ℕ) → n < 2 ^ 32 → k < 2 ^ 32 → blockY n w k < 2 ^ 64
-row-word n w k hn hk = area-fits {a = k / (w / n)} {b = n} (omega (arith, div-le-self k (w / n))) hn
-
-pub blocks-fit : (n w h : ℕ) → w < 2 ^ 32 → h < 2 ^ 32 → blocks n w h < 2 ^ 64
-blocks-fit n w h hw hh = omega (arith, blocks-few n w h, area-fits hw hh)
 
 -- the row past a block, for a block number of 32 bits
 pub rows-fit : (n w k : ℕ) → n ≤ 8 → k < 2 ^ 32 → blockY n w k + n ≤ 2 ^ 35

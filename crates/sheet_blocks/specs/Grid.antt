@@ -24,9 +24,12 @@ blockX n w k = k % (w / n) * n
 abbrev pub blockY : ℕ → ℕ → ℕ → ℕ
 blockY n w k = k / (w / n) * n
 
--- the number of the block that holds sample j of the sheet
+-- the number of the block that holds the sample in column c and row r, and of the block that holds sample j of the sheet
+abbrev pub blockAt : ℕ → ℕ → ℕ → ℕ → ℕ
+blockAt n w c r = place (w / n) (c / n) (r / n)
+
 abbrev pub blockHolding : ℕ → ℕ → ℕ → ℕ
-blockHolding n w j = place (w / n) (j % w / n) (j / w / n)
+blockHolding n w j = blockAt n w (j % w) (j / w)
 
 -- an n by n block whose first sample is (x, y) lies inside a sheet of width w and so many samples
 pub record Inside (n w samples x y : ℕ) : Type 0 where

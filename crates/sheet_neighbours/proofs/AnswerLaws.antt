@@ -9,12 +9,12 @@ use Rattle.arith.proofs.ListLaws.{length-listOf}
 use Rattle.sheet_blocks.specs.Grid.{liesIn}
 use Rattle.sheet_blocks.proofs.GridLaws.{lies}
 use Rattle.sheet_blocks.proofs.AnswerLaws.{take-filled}
-use Rattle.sheet_neighbours.specs.Neighbours.{neighbours, neighboursAt}
+use Rattle.sheet_neighbours.specs.Neighbours.{neighbours, walked}
 use Rattle.sheet_neighbours.specs.Answer.{neighboursAnswer}
 
 -- a block of n by n samples has 4n neighbours
 pub length-neighbours : (n w k : ℕ) (s : List ℕ) → length (neighbours n w k s) ≡ 4 * n
-unfolding neighboursAt
+unfolding walked
 length-neighbours n w k s = length-listOf _ (4 * n)
 
 -- they come first in the array

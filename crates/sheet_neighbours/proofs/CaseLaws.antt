@@ -12,14 +12,20 @@ use lib.ListN.{getD}
 use Rattle.arith.specs.Square.{place}
 use Rattle.arith.proofs.ListLaws.{listOf-at}
 use Rattle.sides.specs.Sides.{leftAt, topAt}
-use Rattle.sheet_neighbours.specs.Neighbours.{readFrom, aboveCount, leftSource, topSource, sourceAt, neighboursAt}
+use Rattle.sheet_neighbours.specs.Neighbours.{readFrom, neighboursAt}
+use Rattle.sheet_neighbours.specs.Counts.{leftCount, aboveCount, topCount, counted}
 use Rattle.sheet_neighbours.specs.Laws.{NeighbourCases}
-use Rattle.sheet_neighbours.proofs.SourceLaws.{above-some, left-own, left-top, left-nowhere, top-own, top-left, top-nowhere}
+use Rattle.sheet_blocks.specs.Grid.{blockX, blockY}
+use Rattle.sheet_neighbours.proofs.PlacedLaws.{neighbours-counted}
+use Rattle.sheet_neighbours.proofs.CountLaws.{above-some}
+use Rattle.sheet_neighbours.proofs.SourceLaws.{leftSource, topSource, sourceAt, left-own, left-top, left-nowhere, top-own, top-left, top-nowhere}
 
-module _ (n w x y : ℕ) (s : List ℕ) (some : 1 ≤ n) where
+-- a block at (x, y) whose neighbours are those of its counts
+module _ (n w x y : ℕ) (s : List ℕ) (some : 1 ≤ n) (by-counts : neighboursAt n w x y s ≡ counted n w x y (leftCount n x) (topCount n w x y) s) where
+  -- neighbour i
   neighbour-at : (i : ℕ) → i < 4 * n → getD (neighboursAt n w x y s) i 0 ≡ readFrom s (sourceAt n w x y i)
-  unfolding neighboursAt
-  neighbour-at i h = listOf-at _ 0 (4 * n) i h
+  unfolding counted
+  neighbour-at i h = ap (λ (l : List ℕ). getD l i 0) by-counts ∙ listOf-at _ 0 (4 * n) i h
 
   -- the two runs
   left-is : (i : ℕ) → i < 2 * n → leftAt (neighboursAt n w x y s) i ≡ readFrom s (leftSource n w x y i)
@@ -84,8 +90,8 @@ module _ (n w x y : ℕ) (s : List ℕ) (some : 1 ≤ n) where
       )
 
   -- document 01's cases
-  pub neighbour-cases : NeighbourCases n w x y s
-  neighbour-cases =
+  cases : NeighbourCases n w x y s
+  cases =
       record {
         none = λ h v i l. neighbour-at i l ∙ grey h v i;
         left = λ h i l. left-is i (omega arith) ∙ left-sample i h l;
@@ -96,3 +102,8 @@ module _ (n w x y : ℕ) (s : List ℕ) (some : 1 ≤ n) where
         right = λ v f i l m. top-is i m ∙ top-sample i v (rw (le-leb (x + 2 * n) w f) m);
         beyond = λ v f i l m. top-is i m ∙ ap (readFrom s) (edge-same i v f l) ∙ sym (top-is (n - 1) (omega arith));
       }
+
+-- the neighbours of every block of a sheet are document 01's cases
+pub neighbour-cases :
+    (n w k : ℕ) (s : List ℕ) → 1 ≤ n → n ≤ w → NeighbourCases n w (blockX n w k) (blockY n w k) s
+neighbour-cases n w k s some wide = cases n w (blockX n w k) (blockY n w k) s some (neighbours-counted n w k s some wide)

@@ -1,32 +1,22 @@
--- Where each neighbour is read, by what is present around the block. Assumes nothing.
-use Prim.Native.Nat.{ℕ, _+_, _-_, _*_, _≤_, _<_, min}
-use mathlib.Core.Bool.{Bool, true, false, cond}
-use mathlib.Core.Path.{_≡_, refl, ap, _∙_}
+-- Where the counts of a block of a sheet read each neighbour. Assumes nothing.
+use Prim.Native.Nat.{ℕ, _-_, _≤_, _<_, min}
+use mathlib.Core.Path.{_≡_}
 use native.Mathlib.Omega.{arith}
-use borrow.Author.Tests.{leb-true, lt-ltb, le-ltb}
-use lib.Dec.{leb}
+use borrow.Author.Tests.{lt-ltb, le-ltb}
 use Rattle.arith.specs.Square.{place}
-use Rattle.sheet_blocks.specs.Grid.{Inside}
-use Rattle.sheet_neighbours.specs.Neighbours.{Source, sample, nowhere, run, leftCount, aboveCount, topCount, leftOwn, topOwn, leftSource, topSource}
+use Rattle.sheet_neighbours.specs.Neighbours.{Source, sample, nowhere, leftOwn, topOwn}
+use Rattle.sheet_neighbours.specs.Counts.{leftCount, aboveCount, topCount, countedLeft, countedTop, countedAt}
+use Rattle.sheet_neighbours.proofs.CountLaws.{above-some, left-some, left-other, left-gone, top-some, top-other, top-gone}
 
--- a run with a sample present
-run-own : (count : ℕ) (own : ℕ → Source) (other : Source) (i : ℕ) → 0 < count → run count own other i ≡ own (min i (count - 1))
-run-own count own other i h = rw (lt-ltb 0 count h)
+-- L(i), T(i) and neighbour i
+abbrev pub leftSource : ℕ → ℕ → ℕ → ℕ → ℕ → Source
+leftSource n w x y i = countedLeft w x y (leftCount n x) (topCount n w x y) i
 
-pub above-some : (n w x : ℕ) → 1 ≤ n → n ≤ aboveCount n w x
-above-some n w x h = go (leb (x + 2 * n) w)
-  where
-    go : (b : Bool) → n ≤ cond b (2 * n) n
-    go true = omega arith
-    go false = omega arith
+abbrev pub topSource : ℕ → ℕ → ℕ → ℕ → ℕ → Source
+topSource n w x y i = countedTop w x y (leftCount n x) (topCount n w x y) i
 
--- they lie inside the sheet's width
-pub above-inside : {n w samples x y : ℕ} → Inside n w samples x y → x + aboveCount n w x ≤ w
-above-inside {n} {w} {samples} {x} {y} p = go (leb (x + 2 * n) w) refl
-  where
-    go : (b : Bool) → leb (x + 2 * n) w ≡ b → x + cond b (2 * n) n ≤ w
-    go true e = leb-true (x + 2 * n) w e
-    go false e = p .across
+abbrev pub sourceAt : ℕ → ℕ → ℕ → ℕ → ℕ → Source
+sourceAt n w x y i = countedAt n w x y (leftCount n x) (topCount n w x y) i
 
 module _ (n w x y : ℕ) (some : 1 ≤ n) where
   left-count : 0 < x → leftCount n x ≡ n
@@ -43,34 +33,23 @@ module _ (n w x y : ℕ) (some : 1 ≤ n) where
 
   -- a block to the left
   pub left-own : (i : ℕ) → 0 < x → leftSource n w x y i ≡ leftOwn w x y (min i (n - 1))
-  unfolding leftSource
-  left-own i h = rw (left-count h) (run-own n (leftOwn w x y) (run (topCount n w x y) (topOwn w x y) nowhere 0) i some)
+  left-own i h = rw (left-count h) (left-some w x y n (topCount n w x y) i some)
 
   -- a row above and no block to the left
   pub left-top : (i : ℕ) → x ≤ 0 → 0 < y → leftSource n w x y i ≡ sample (place w x (y - 1))
-  unfolding leftSource
-  left-top i h v =
-      let e : x + min 0 (aboveCount n w x - 1) ≡ x = omega arith in
-      rw (left-none h, top-count v)
-      (run-own (aboveCount n w x) (topOwn w x y) nowhere 0 (omega (arith, above-some n w x some)) ∙ ap (λ (c : ℕ). sample (place w c (y - 1))) e)
+  left-top i h v = rw (left-none h, top-count v) (left-other w x y 0 (aboveCount n w x) i (omega arith) (omega (arith, above-some n w x some)))
 
   -- neither
   pub left-nowhere : (i : ℕ) → x ≤ 0 → y ≤ 0 → leftSource n w x y i ≡ nowhere
-  unfolding leftSource
-  left-nowhere i h v = rw (left-none h, top-none v)
+  left-nowhere i h v = rw (left-none h, top-none v) (left-gone w x y 0 0 i (omega arith) (omega arith))
 
   -- a row above
   pub top-own : (i : ℕ) → 0 < y → topSource n w x y i ≡ topOwn w x y (min i (aboveCount n w x - 1))
-  unfolding topSource
-  top-own i v = rw (top-count v) (run-own (aboveCount n w x) (topOwn w x y) _ i (omega (arith, above-some n w x some)))
+  top-own i v = rw (top-count v) (top-some w x y (leftCount n x) (aboveCount n w x) i (omega (arith, above-some n w x some)))
 
   -- a block to the left and no row above
   pub top-left : (i : ℕ) → y ≤ 0 → 0 < x → topSource n w x y i ≡ sample (place w (x - 1) y)
-  unfolding topSource
-  top-left i v h =
-      let e : y + min 0 (n - 1) ≡ y = omega arith in
-      rw (top-none v, left-count h) (run-own n (leftOwn w x y) nowhere 0 some ∙ ap (λ (r : ℕ). sample (place w (x - 1) r)) e)
+  top-left i v h = rw (top-none v, left-count h) (top-other w x y n 0 i (omega arith) some)
 
   pub top-nowhere : (i : ℕ) → y ≤ 0 → x ≤ 0 → topSource n w x y i ≡ nowhere
-  unfolding topSource
-  top-nowhere i v h = rw (top-none v, left-none h)
+  top-nowhere i v h = rw (top-none v, left-none h) (top-gone w x y 0 0 i (omega arith) (omega arith))

@@ -3,8 +3,9 @@ ghost use mathlib.Core.Path.{_≡_};
 ghost use Prim.Native.Nat.{_*_, _<_, _≤_};
 ghost use lib.ListN.{length, getD};
 ghost use Rattle.arith.specs.Square.{place};
-ghost use Rattle.sheet_blocks.specs.Grid.{Inside};
-ghost use Rattle.sheet_neighbours.specs.Neighbours.{readFrom, aboveCount, leftSource, topSource, sourceAt, neighboursAt};
+ghost use Rattle.sheet_neighbours.specs.Neighbours.{readFrom};
+ghost use Rattle.sheet_neighbours.specs.Counts.{RunsInside, leftCount, aboveCount, topCount};
+ghost use Rattle.sheet_neighbours.specs.Counts.{countedLeft, countedTop, countedAt, counted};
 ghost use Rattle.sheet_blocks.specs.Answer.{filled};
 ghost use Rattle.sheet_neighbours.specs.Answer.{neighboursAnswer};
 use pattern::lesser;
@@ -31,56 +32,88 @@ fn above_count(width: usize, n: usize, x: usize) -> usize
     if 2 * n <= width - x { 2 * n } else { n }
 }
 
-// Place i of the left run of the block at (x, y).
-fn left_at(samples: &[u8], width: usize, n: usize, x: usize, y: usize, i: usize) -> u8
-    requires { ⌜ (Inside n width (length (now samples)) x y) × (n ≤ 8) ⌝ }
-    ensures { λ r. ⌜ r ≡ readFrom (now (samples .entry)) (leftSource n width x y i) ⌝ }
+// The samples present in the left run of a block: n where there is a block to the left.
+fn left_count(n: usize, x: usize) -> usize
+    ensures { λ r. ⌜ r ≡ leftCount n x ⌝ }
 {
-    if 0 < x {
-        let j = lesser(i, n - 1);
+    if 0 < x { n } else { 0 }
+}
+
+// And in its top run: none where there is no row above.
+fn top_count(width: usize, n: usize, x: usize, y: usize) -> usize
+    requires { ⌜ (n ≤ 8) × (x ≤ width) ⌝ }
+    ensures { λ r. ⌜ r ≡ topCount n width x y ⌝ }
+{
+    if 0 < y { above_count(width, n, x) } else { 0 }
+}
+
+// Place i of the left run of the block at (x, y), whose runs have l and t samples present.
+fn left_at(samples: &[u8], width: usize, x: usize, y: usize, l: usize, t: usize, i: usize) -> u8
+    requires { ⌜ RunsInside width (length (now samples)) x y l t ⌝ }
+    ensures { λ r. ⌜ r ≡ readFrom (now (samples .entry)) (countedLeft width x y l t i) ⌝ }
+{
+    if 0 < l {
+        let j = lesser(i, l - 1);
         return read_at(samples, width, x - 1, y + j);
     }
-    if 0 < y {
+    if 0 < t {
         return read_at(samples, width, x, y - 1);
     }
     128
 }
 
 // Place i of its top run.
-fn top_at(samples: &[u8], width: usize, n: usize, x: usize, y: usize, i: usize) -> u8
-    requires { ⌜ (Inside n width (length (now samples)) x y) × (n ≤ 8) ⌝ }
-    ensures { λ r. ⌜ r ≡ readFrom (now (samples .entry)) (topSource n width x y i) ⌝ }
+fn top_at(samples: &[u8], width: usize, x: usize, y: usize, l: usize, t: usize, i: usize) -> u8
+    requires { ⌜ RunsInside width (length (now samples)) x y l t ⌝ }
+    ensures { λ r. ⌜ r ≡ readFrom (now (samples .entry)) (countedTop width x y l t i) ⌝ }
 {
-    if 0 < y {
-        let j = lesser(i, above_count(width, n, x) - 1);
+    if 0 < t {
+        let j = lesser(i, t - 1);
         return read_at(samples, width, x + j, y - 1);
     }
-    if 0 < x {
+    if 0 < l {
         return read_at(samples, width, x - 1, y);
     }
     128
 }
 
-// Neighbour i: the left run, then the top run.
-fn neighbour(samples: &[u8], width: usize, n: usize, x: usize, y: usize, i: usize) -> u8
-    requires { ⌜ (Inside n width (length (now samples)) x y) × (n ≤ 8) ⌝ }
-    ensures { λ r. ⌜ r ≡ readFrom (now (samples .entry)) (sourceAt n width x y i) ⌝ }
+// Neighbour i of that block: the left run, then the top run.
+fn neighbour(
+    samples: &[u8],
+    width: usize,
+    n: usize,
+    x: usize,
+    y: usize,
+    l: usize,
+    t: usize,
+    i: usize,
+) -> u8
+    requires { ⌜ (RunsInside width (length (now samples)) x y l t) × (n ≤ 8) ⌝ }
+    ensures { λ r. ⌜ r ≡ readFrom (now (samples .entry)) (countedAt n width x y l t i) ⌝ }
 {
     if i < 2 * n {
-        left_at(samples, width, n, x, y, i)
+        left_at(samples, width, x, y, l, t, i)
     } else {
-        top_at(samples, width, n, x, y, i - 2 * n)
+        top_at(samples, width, x, y, l, t, i - 2 * n)
     }
 }
 
-// The 4n neighbours of the block at (x, y), then 0.
-fn neighbours_at(samples: &[u8], width: usize, n: usize, x: usize, y: usize) -> [u8; NEIGHBOURS]
-    requires { ⌜ (Inside n width (length (now samples)) x y) × (n ≤ 8) ⌝ }
-    ensures { λ r. ⌜ r ≡ filled 32 (4 * n) (neighboursAt n width x y (now (samples .entry))) ⌝ }
+// The 4n neighbours of the block at (x, y), whose runs have l and t samples present, then 0.
+fn neighbours_at(
+    samples: &[u8],
+    width: usize,
+    n: usize,
+    x: usize,
+    y: usize,
+    l: usize,
+    t: usize,
+) -> [u8; NEIGHBOURS]
+    requires { ⌜ (RunsInside width (length (now samples)) x y l t) × (n ≤ 8) ⌝ }
+    ensures { λ r. ⌜ r ≡ filled 32 (4 * n) (counted n width x y l t (now (samples .entry))) ⌝ }
 {
     let mut near = [0u8; NEIGHBOURS];
     for i in 0..4 * n {
-        near[i] = neighbour(samples, width, n, x, y, i);
+        near[i] = neighbour(samples, width, n, x, y, l, t, i);
     }
     near
 }
@@ -94,5 +127,7 @@ pub fn neighbours_of(samples: &[u8], n: u32, width: u32, k: u32) -> [u8; NEIGHBO
     }
     let x = block_x(n, width, k);
     let y = block_y(n, width, k);
-    neighbours_at(samples, width as usize, n as usize, x, y)
+    let l = left_count(n as usize, x);
+    let t = top_count(width as usize, n as usize, x, y);
+    neighbours_at(samples, width as usize, n as usize, x, y, l, t)
 }

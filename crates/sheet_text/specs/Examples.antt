@@ -14,7 +14,7 @@ use Rattle.wedgelet.specs.Wedgelet.{candidate, wedgelet, holds, keep, ends, sta
 use Rattle.sides.specs.Sides.{vertEdge, horEdge, ltBy, brBy, lt, br, sideDepth}
 use Rattle.offset.specs.Offset.{offsetOk, levelOf}
 use Rattle.prediction.specs.Block.{sampleOf, predicted}
-use Rattle.sheet_neighbours.specs.Neighbours.{leftSource, topSource, neighboursAt}
+use Rattle.sheet_neighbours.specs.Neighbours.{firstPresent, substitutedBy, substituted, walked}
 use Rattle.sheet_blocks.specs.Samples.{written}
 use Rattle.record_checks.specs.Meaning.{recordRefusal}
 use Rattle.sheet.specs.Place.{placedSamples, placedInTurn}
@@ -42,7 +42,7 @@ sampleShown =
     49 ∷ 52 ∷ 48 ∷ 32 ∷ 49 ∷ 52 ∷ 48 ∷ 32 ∷ 49 ∷ 52 ∷ 48 ∷ 32 ∷ 49 ∷ 52 ∷ 48 ∷ 10 ∷ []
 
 sample-shown : shownText sampleFile ≡ sampleShown
-unfolding shownText sizeIn aidsFor sidesTitle rowsText sidesText sheetText readFile readLengthsOk fileLines sizeMeaning valueMeaning recordRefusal offsetOk exactly sizeTitle depthTitle recordTitle sizeLine valueLine recordLine manyLines texts number signed moreDigits numberText numeral digitsOf furtherDigits bits clamped listOf nearestTo indexOf candidate wedgelet holds keep ends starts wedgeletList vertEdge horEdge ltBy brBy lt br sideDepth levelOf sampleOf predicted leftSource topSource neighboursAt written placedSamples placedInTurn
+unfolding shownText sizeIn aidsFor sidesTitle rowsText sidesText sheetText readFile readLengthsOk fileLines sizeMeaning valueMeaning recordRefusal offsetOk exactly sizeTitle depthTitle recordTitle sizeLine valueLine recordLine manyLines texts number signed moreDigits numberText numeral digitsOf furtherDigits bits clamped listOf nearestTo indexOf candidate wedgelet holds keep ends starts wedgeletList vertEdge horEdge ltBy brBy lt br sideDepth levelOf sampleOf predicted firstPresent substitutedBy substituted walked written placedSamples placedInTurn
 sample-shown = refl
 
 -- no input, a last line without its end, a byte past the last record

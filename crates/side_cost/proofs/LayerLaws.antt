@@ -14,7 +14,7 @@ use borrow.Author.Tests.{ltb-true, ltb-false}
 use Rattle.arith.specs.Bits.{bit, bits, testBit}
 use Rattle.arith.specs.Distance.{dist}
 use Rattle.arith.specs.Sum.{sumTo}
-use Rattle.arith.proofs.BitLaws.{bits-lt, bits-ext, bits-at, bits-not, bits-same, ones-bits}
+use Rattle.arith.proofs.BitLaws.{bits-lt, bits-ext, bits-at, bits-not, bits-same, ones-bits, digit-of}
 use Rattle.arith.proofs.Sums.{sum-ext, sum-add, sum-le, sum-none}
 use Rattle.side_cost.specs.Cost.{sideCost}
 use Rattle.side_cost.specs.Tally.{sideCount, sideSize, sideBelow}
@@ -110,11 +110,6 @@ unfolding sumTo
 five-sums v A B C E zero h = omega (arith, mul-zero v)
 five-sums v A B C E (suc c) h =
     omega (arith, five-sums v A B C E c (λ k l. h k (omega arith)), h c (omega arith), mul-add v (sumTo C c) (C c), mul-add v (sumTo B c) (B c))
-
-digit-of : (x : ℕ) → x < 2 → bit (eqb x 1) ≡ x
-digit-of zero h = refl
-digit-of (suc zero) h = refl
-digit-of (suc (suc x)) h = absurd (omega arith)
 
 -- one sample: without its lowest j bits it is twice what it is without its lowest j + 1, and bit j
 half-step : (x j : ℕ) (b : Bool) → cond b (x / 2 ^ j) 0 ≡ 2 * cond b (x / 2 ^ (j + 1)) 0 + bit (b && testBit x j)

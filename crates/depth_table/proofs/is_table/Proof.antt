@@ -2,6 +2,7 @@
 use native.Mathlib.Omega.{arith}
 use denote.Ref.{now}
 use borrow.Author.Needs.{needs}
+use lib.ListN.{length}
 use borrow.Author.Tests.{lt-leb, le-leb}
 use Rattle.depth_table.specs.Table.{tableOk}
 use Rattle.depth_table.proofs.TableLaws.{bytes-made}
@@ -10,11 +11,13 @@ use Rattle.depth_table.proofs.is_table.Tie as tie
 
 returns : tie.Need-returns
 unfolding tableOk
-returns c = simp (lt-leb 1 _ (c .if1 .taken))
+returns c = simp (lt-leb 1 (length (now (c .before .before .args .table))) (omega (arith, c .if1 .taken)))
 
 returns-2 : tie.Need-returns-2
 unfolding tableOk
-returns-2 c = simp (le-leb 1 _ (c .before .if1 .left), lt-leb _ 256 (c .if2 .taken))
+returns-2 c =
+    let m = length (now (c .before .before .before .args .table)) in
+    simp (le-leb 1 m (omega (arith, c .if2 .taken)), lt-leb m 256 (omega (arith, c .if2 .taken)))
 
 is-rising-requires : tie.Need-is-rising-requires
 is-rising-requires c κs = search needs

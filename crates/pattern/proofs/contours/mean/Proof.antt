@@ -52,7 +52,7 @@ mul-result : tie.Need-mul-result Inv-loop μ-loop
 mul-result c = omega (arith, square-64 (c .before .before .before .pre .1))
 
 div-result : tie.Need-div-result Inv-loop μ-loop
-div-result c = one-le-square (c .before .before .before .pre .0)
+div-result c = omega (arith, one-le-square (c .before .before .before .pre .0))
 
 returns : tie.Need-returns Inv-loop μ-loop
 unfolding threshold

@@ -6,14 +6,21 @@ use denote.Ref.{now}
 use lib.ListN.{length}
 use mir.Syntax.{w32}
 use mir.ValLaws.{toZ-ofZ}
-use Rattle.arith.proofs.CheckLaws.{answer-refused, answer-given, lent-refused, lent-given}
+use Rattle.arith.proofs.CheckLaws.{answer-given, lent-given}
 use Rattle.sides.specs.Answer.{sidesRefusal}
 use Rattle.prediction.specs.Answer.{predictRefusal, predictAnswer, predictBlock}
 use Rattle.prediction.proofs.BlockLaws.{painted-is, marked-is, unmarked-is, offsets-kept}
-use Rattle.prediction.proofs.CallLaws.{offsets-read, predict-accepted, sides-accept}
+use Rattle.prediction.proofs.CallLaws.{offsets-read, refusal-leaves, predict-accepted, sides-accept}
 use borrow.Author.Needs.{needs}
 use Rattle.prediction.proofs.block.predict.Statement.{statement}
 use Rattle.prediction.proofs.block.predict.Tie as tie
+
+predict-refusal-requires : tie.Need-predict-refusal-requires
+predict-refusal-requires c κs = tt
+
+returns : tie.Need-returns
+returns c =
+    refusal-leaves _ _ _ _ _ (c .before .predict-refusal .ensures) (toZ-ofZ w32 _ (search needs)) (toZ-ofZ w32 _ (search needs)) (c .if1 .taken)
 
 -- the number that the checks give for the arguments
 abbrev number : tie.Start → ℕ
@@ -32,16 +39,6 @@ none c = sym (number-found (c .before)) ∙ c .if1 .left
 
 sound : (c : tie.Else1) → let a = c .before .before .before .before .before .args in sidesRefusal (a .n) (a .word) (now (a .border)) ≡ 0
 sound c = sides-accept _ (predict-accepted _ _ _ _ _ _ _ (none c))
-
-predict-refusal-requires : tie.Need-predict-refusal-requires
-predict-refusal-requires c κs = tt
-
-returns : tie.Need-returns
-unfolding predictAnswer predictBlock
-returns c = (
-  rw (← (number-found (c .before))) (answer-refused _ _ (c .if1 .taken)),
-  rw (← (number-found (c .before))) (lent-refused _ _ _ (c .if1 .taken)),
-)
 
 mark-at-requires : tie.Need-mark-at-requires
 mark-at-requires c κs = tt

@@ -40,15 +40,6 @@ returns-2 c =
 offset-ok-requires-2 : tie.Need-offset-ok-requires-2
 offset-ok-requires-2 c κs = search needs
 
-returns-3 : tie.Need-returns-3
-returns-3 c =
-    let f = c .before .before in
-    let e = f .before .before in
-    let d = e .before .before .before in
-    let a = d .args in
-    off1-refuses (a .n) (a .list .now) (a .count) (a .textured) (judged d) (none e) (toZ-ofZ w32 (a .off0) (d .fits .off0)) (sym (f .before .offset-ok .ensures) ∙ not-false _ (f .if2 .left))
-    (toZ-ofZ w32 (a .off1) (d .fits .off1)) (sym (c .before .offset-ok2 .ensures) ∙ not-true _ (c .if3 .taken))
-
 returns-4 : tie.Need-returns-4
 returns-4 c =
     let f = c .before .before in
@@ -57,6 +48,15 @@ returns-4 c =
     let a = d .args in
     none-refuses (a .n) (a .list .now) (a .count) (a .textured) (judged d) (none e) (toZ-ofZ w32 (a .off0) (d .fits .off0)) (sym (f .before .offset-ok .ensures) ∙ not-false _ (f .if2 .left))
     (toZ-ofZ w32 (a .off1) (d .fits .off1)) (sym (c .before .offset-ok2 .ensures) ∙ not-false _ (c .if3 .left))
+
+returns-3 : tie.Need-returns-3
+returns-3 c =
+    let f = c .before .before in
+    let e = f .before .before in
+    let d = e .before .before .before in
+    let a = d .args in
+    off1-refuses (a .n) (a .list .now) (a .count) (a .textured) (judged d) (none e) (toZ-ofZ w32 (a .off0) (d .fits .off0)) (sym (f .before .offset-ok .ensures) ∙ not-false _ (f .if2 .left))
+    (toZ-ofZ w32 (a .off1) (d .fits .off1)) (sym (c .before .offset-ok2 .ensures) ∙ not-true _ (c .if3 .taken))
 
 pub record-refusal-spec : {M : Type 1} → statement M
 record-refusal-spec =

@@ -33,7 +33,7 @@ read-records-requires c κs = search needs
 
 returns : tie.Need-returns
 returns c =
-    let d = c .before .before .before .before .before .before .before .before in
+    let d : tie.Start = search needs in
     let e = sym (ap (linesTold _) (c .before .number .given .1)) ∙ c .before .before .before .judge-last .ensures in
     (e, last-kept (putRecords (slices d)) (d .args .rows .first + d .args .rows .many) (lines d) (slices d) e)
 

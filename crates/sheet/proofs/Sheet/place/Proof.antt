@@ -90,17 +90,6 @@ word-next-requires c κs =
     let d = e .before .before .before .before .before .before .before in
     (accepted e .is, named (d .args .self) (d .args .samples .now) (material d) (placing d) (none e) (sound c) (right e))
 
-put-requires : tie.Need-put-requires
-put-requires c κs =
-    let w = c .before in
-    let e = w .before .before .before .before in
-    let d = e .before .before .before .before .before .before .before in
-    let p = predictable (d .args .self) (d .args .samples .now) (material d) (placing d) (none e) (sound (w .before)) (w .word-next .ensures) in
-    (accepted e .is, right e .whole, rw (toZ-ofZ w32 (d .args .off0) (d .fits .off0), toZ-ofZ w32 (d .args .off1) (d .fits .off1)) p)
-
-same-length : tie.Need-same-length
-same-length c = search needs
-
 returns-3 : tie.Need-returns-3
 returns-3 c =
     let put = c .before .before in
@@ -111,6 +100,17 @@ returns-3 c =
     all-given (d .args .self) (d .args .samples .now) (material d) (placing d) (none e) (sound (w .before)) (w .word-next .ensures)
     (put .put .ensures .0)
     left
+
+put-requires : tie.Need-put-requires
+put-requires c κs =
+    let w = c .before in
+    let e = w .before .before .before .before in
+    let d = e .before .before .before .before .before .before .before in
+    let p = predictable (d .args .self) (d .args .samples .now) (material d) (placing d) (none e) (sound (w .before)) (w .word-next .ensures) in
+    (accepted e .is, right e .whole, rw (toZ-ofZ w32 (d .args .off0) (d .fits .off0), toZ-ofZ w32 (d .args .off1) (d .fits .off1)) p)
+
+same-length : tie.Need-same-length
+same-length c = search needs
 
 pub place-spec : {M : Type 1} → statement M
 place-spec =

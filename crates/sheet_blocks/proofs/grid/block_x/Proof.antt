@@ -1,9 +1,9 @@
 -- `block_x` meets its contract: the product fits 64 bits, and no division is by 0.
 use mathlib.Core.Path.{sym}
-use native.Mathlib.Nat.{mul-zero}
+use native.Mathlib.Nat.{lt-of-le-of-lt, mod-le, mul-zero}
 use native.Mathlib.Omega.{arith}
 use borrow.Author.Needs.{needs}
-use Rattle.sheet_blocks.proofs.GridLaws.{area-fits, column-endless, column-word}
+use Rattle.sheet_blocks.proofs.GridLaws.{area-fits, column-endless}
 use Rattle.sheet_blocks.proofs.grid.block_x.Statement.{statement}
 use Rattle.sheet_blocks.proofs.grid.block_x.Tie as tie
 
@@ -23,7 +23,7 @@ rem-result : tie.Need-rem-result
 rem-result c = search needs
 
 mul-result-2 : tie.Need-mul-result-2
-mul-result-2 c = let a = c .before .before .args in omega (arith, column-word (a .n) (a .width) (a .k) (search needs) (search needs))
+mul-result-2 c = record { fits = area-fits (lt-of-le-of-lt (mod-le _ _) (search needs)) (search needs) }
 
 returns-3 : tie.Need-returns-3
 returns-3 c = search needs

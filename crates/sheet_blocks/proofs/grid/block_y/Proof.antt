@@ -1,9 +1,8 @@
 -- `block_y` meets its contract: the product fits 64 bits, and no division is by 0.
 use mathlib.Core.Path.{sym}
-use native.Mathlib.Nat.{mul-zero}
-use native.Mathlib.Omega.{arith}
+use native.Mathlib.Nat.{lt-of-le-of-lt, div-le-self, mul-zero}
 use borrow.Author.Needs.{needs}
-use Rattle.sheet_blocks.proofs.GridLaws.{row-endless, row-word}
+use Rattle.sheet_blocks.proofs.GridLaws.{area-fits, row-endless}
 use Rattle.sheet_blocks.proofs.grid.block_y.Statement.{statement}
 use Rattle.sheet_blocks.proofs.grid.block_y.Tie as tie
 
@@ -20,7 +19,7 @@ div-result : tie.Need-div-result
 div-result c = search needs
 
 mul-result : tie.Need-mul-result
-mul-result c = let a = c .before .before .args in omega (arith, row-word (a .n) (a .width) (a .k) (search needs) (search needs))
+mul-result c = record { fits = area-fits (lt-of-le-of-lt (div-le-self _ _) (search needs)) (search needs) }
 
 returns-3 : tie.Need-returns-3
 returns-3 c = search needs

@@ -58,7 +58,7 @@ add-block-3 : tie.Need-add-block-3 Inv-loop μ-loop
 add-block-3 c = omega (arith, inside c .2)
 
 shared-slice-read-block : tie.Need-shared-slice-read-block Inv-loop μ-loop
-shared-slice-read-block c = inside (c .before) .2
+shared-slice-read-block c = omega (arith, inside (c .before))
 
 array-write-block : tie.Need-array-write-block Inv-loop μ-loop
 array-write-block c = omega (arith, square-le {m = 8} (c .before .before .before .pre .1))

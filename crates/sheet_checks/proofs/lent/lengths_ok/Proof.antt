@@ -17,16 +17,16 @@ returns c = rw (ne-eqb _ _ (c .if1 .taken))
 texture-ok-requires : tie.Need-texture-ok-requires
 texture-ok-requires c κs = tt
 
+returns-3 : tie.Need-returns-3
+unfolding lengthsOkBy
+returns-3 c = rw (eq-eqb _ _ (c .before .before .before .if1 .left), sym (c .before .before .texture-ok .ensures) ∙ not-false _ (c .before .if2 .left)) (c .count-ok .ensures)
+
 returns-2 : tie.Need-returns-2
 unfolding lengthsOkBy
 returns-2 c = rw (eq-eqb _ _ (c .before .before .if1 .left), sym (c .before .texture-ok .ensures) ∙ not-true _ (c .if2 .taken))
 
 count-ok-requires : tie.Need-count-ok-requires
 count-ok-requires c κs = tt
-
-returns-3 : tie.Need-returns-3
-unfolding lengthsOkBy
-returns-3 c = rw (eq-eqb _ _ (c .before .before .before .if1 .left), sym (c .before .before .texture-ok .ensures) ∙ not-false _ (c .before .if2 .left)) (c .count-ok .ensures)
 
 pub lengths-ok-spec : {M : Type 1} → statement M
 lengths-ok-spec =

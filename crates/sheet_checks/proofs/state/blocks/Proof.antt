@@ -1,8 +1,8 @@
 -- `blocks` meets its contract: the quotients of numbers of 32 bits have a product of 64.
 use borrow.Author.Needs.{needs}
 use Prim.Native.Nat.{_/_}
-use native.Mathlib.Nat.{div-zero, zero-mul}
-use Rattle.sheet_blocks.proofs.GridLaws.{blocks-fit}
+use native.Mathlib.Nat.{lt-of-le-of-lt, div-le-self, div-zero, zero-mul}
+use Rattle.sheet_blocks.proofs.GridLaws.{area-fits}
 use Rattle.sheet_checks.proofs.state.blocks.Statement.{statement}
 use Rattle.sheet_checks.proofs.state.blocks.Tie as tie
 
@@ -16,7 +16,7 @@ div-down : tie.Need-div-down
 div-down c = search needs
 
 mul-result : tie.Need-mul-result
-mul-result c = let a = c .before .args in record { fits = blocks-fit (a .n) (a .width) (a .height) (search needs) (search needs) }
+mul-result c = record { fits = area-fits (lt-of-le-of-lt (div-le-self _ _) (search needs)) (lt-of-le-of-lt (div-le-self _ _) (search needs)) }
 
 returns-2 : tie.Need-returns-2
 returns-2 c = search needs

@@ -5,17 +5,18 @@ use native.Mathlib.Omega.{arith}
 use borrow.Author.Needs.{needs}
 use Rattle.arith.specs.Lists.{upto}
 use Rattle.arith.proofs.ListLaws.{upto-none, fill-by}
-use Rattle.sheet_neighbours.specs.Neighbours.{readFrom, sourceAt, neighboursAt}
+use Rattle.sheet_neighbours.specs.Neighbours.{readFrom}
+use Rattle.sheet_neighbours.specs.Counts.{countedAt, counted}
 use Rattle.sheet_blocks.proofs.AnswerLaws.{filled-by}
 use Rattle.sheet_neighbours.proofs.neighbours.neighbours_at.Statement.{statement}
 use Rattle.sheet_neighbours.proofs.neighbours.neighbours_at.Tie as tie
 
 abbrev Inv-loop : tie.InvT-loop
-Inv-loop samples width n x y near₀ i₀ i-end near i =
-    (i-end ≡ 4 * n) × (i ≤ 4 * n) × (near ≡ upto 32 i (λ j. readFrom samples (sourceAt n width x y j)) 0)
+Inv-loop samples width n x y l t near₀ i₀ i-end near i =
+    (i-end ≡ 4 * n) × (i ≤ 4 * n) × (near ≡ upto 32 i (λ j. readFrom samples (countedAt n width x y l t j)) 0)
 
 abbrev μ-loop : tie.MeasureT-loop
-μ-loop samples width n x y near₀ i₀ i-end near i = 4 * n - i
+μ-loop samples width n x y l t near₀ i₀ i-end near i = 4 * n - i
 
 mul-i-end : tie.Need-mul-i-end Inv-loop μ-loop
 mul-i-end c = search needs
@@ -39,7 +40,7 @@ loop-again : tie.Need-loop-again Inv-loop μ-loop
 loop-again c = (refl, omega arith, fill-by 32 _ _ 0 (c .before .before .loop .inv .2) (c .neighbour .ensures) (omega arith))
 
 returns : tie.Need-returns Inv-loop μ-loop
-unfolding neighboursAt
+unfolding counted
 returns c = filled-by 32 _ _ _ (c .before .loop .inv .2) (omega arith)
 
 pub neighbours-at-spec : {M : Type 1} → statement M

@@ -62,12 +62,6 @@ add-e-2 c = search needs
 next-less-2 : tie.Need-next-less-2 Inv-loop2 μ-loop2 Inv-next μ-next Inv-loop μ-loop
 next-less-2 c = search needs
 
-next-again-2 : tie.Need-next-again-2 Inv-loop2 μ-loop2 Inv-next μ-next Inv-loop μ-loop
-next-again-2 c = (
-  omega arith,
-  front-zero _ _ _ _ _ _ (c .before .before .if1 .left) (c .before .word-of .ensures) (c .before .before .before .before .next .inv .1) (c .if2 .taken),
-)
-
 loop2-holds : tie.Need-loop2-holds Inv-loop2 μ-loop2 Inv-next μ-next Inv-loop μ-loop
 loop2-holds c = (refl, omega arith, λ j h _. omega arith)
 
@@ -88,14 +82,6 @@ add-e-3 c = search needs
 
 next-less-3 : tie.Need-next-less-3 Inv-loop2 μ-loop2 Inv-next μ-next Inv-loop μ-loop
 next-less-3 c = search needs
-
-next-again-3 : tie.Need-next-again-3 Inv-loop2 μ-loop2 Inv-next μ-next Inv-loop μ-loop
-next-again-3 c =
-    let b = c .before .before .before in (
-      omega arith,
-      front-held _ _ _ _ _ _ (b .before .before .before .if1 .left) (b .before .before .word-of .ensures) (b .before .before .before .before .before .next .inv .1)
-          (b .loop2 .k) (omega arith) (c .if3 .taken) (b .loop2 .inv .0),
-    )
 
 add-k : tie.Need-add-k Inv-loop2 μ-loop2 Inv-next μ-next Inv-loop μ-loop
 add-k c = omega (arith, long (c .before .before .before .before .before .before .before .before))
@@ -143,6 +129,21 @@ next-again-4 c =
       omega arith,
       front-kept _ _ _ _ _ _ (b .before .before .before .if1 .left) (b .before .before .word-of .ensures) (b .before .before .before .before .before .next .inv .1)
           (b .before .if2 .left) (λ j h. b .loop2 .inv .2 j (omega arith)) (free c) (b .loop2 .inv .0),
+    )
+
+-- a candidate that is dropped: its word is 0, or stands in the list
+next-again-2 : tie.Need-next-again-2 Inv-loop2 μ-loop2 Inv-next μ-next Inv-loop μ-loop
+next-again-2 c = (
+  omega arith,
+  front-zero _ _ _ _ _ _ (c .before .before .if1 .left) (c .before .word-of .ensures) (c .before .before .before .before .next .inv .1) (c .if2 .taken),
+)
+
+next-again-3 : tie.Need-next-again-3 Inv-loop2 μ-loop2 Inv-next μ-next Inv-loop μ-loop
+next-again-3 c =
+    let b = c .before .before .before in (
+      omega arith,
+      front-held _ _ _ _ _ _ (b .before .before .before .if1 .left) (b .before .before .word-of .ensures) (b .before .before .before .before .before .next .inv .1)
+          (b .loop2 .k) (omega arith) (c .if3 .taken) (b .loop2 .inv .0),
     )
 
 add-s : tie.Need-add-s Inv-loop2 μ-loop2 Inv-next μ-next Inv-loop μ-loop
