@@ -1,20 +1,34 @@
-/* Times the bench beside plain C and Rust in one run and prints the ratios. All see the same blocks, and their answers are compared. */
+/* Times the bench beside plain C, and beside its own method in C, in one run and prints the ratios. All see the same blocks, and their
+   answers are compared. */
 #include <stdio.h>
 #include <stdlib.h>
 #include <time.h>
 
+#include "depth_bench.h"
 #include "inputs.h"
-#include "judge.h"
 
-/* The plain loops, compiled twice: at -O2 and at -O3. */
+/* The plain loops and the bench's method, compiled at -O2 or -O3. */
+#define CHOOSE(name) \
+    depth_bench_choice name(size_t, const uint64_t *, size_t, const uint8_t *, const uint8_t *, const uint8_t *, size_t, uint32_t, \
+        const uint8_t *);
 #define PLAIN(level) \
     void plain_predict_##level(size_t, uint64_t, const uint8_t *, const uint8_t *, size_t, int32_t, int32_t, uint8_t *); \
-    depth_bench_choice plain_choose_##level(size_t, const uint8_t *, const uint8_t *, const uint8_t *, size_t, uint32_t, const uint8_t *);
+    size_t plain_list_##level(size_t, uint64_t *); \
+    CHOOSE(plain_choose_##level)
 PLAIN(O2)
 PLAIN(O3)
+CHOOSE(fast_choose)
+size_t fast_list(size_t, uint64_t *);
 
-enum { BLOCKS = 64 };
+/* The choice with the list lent, of libfile_calls.a. */
+depth_bench_choice file_calls_choose(size_t n, const uint64_t *list, size_t list_len, size_t count, const uint8_t *border,
+    size_t border_len, const uint8_t *original, size_t original_len, const uint8_t *table, size_t table_len, uint32_t reach,
+    const uint8_t *texture, size_t texture_len);
+
+enum { BLOCKS = 64, LIST = 756, BENCH = 0, PLAIN2 = 1, PLAIN3 = 2, SAME = 3 };
 static slice borders[BLOCKS], originals[BLOCKS], textures[BLOCKS], table;
+static uint64_t list[LIST];
+static size_t count;
 static uint8_t out[64];
 static uint64_t check;
 
@@ -32,28 +46,54 @@ static void inputs(size_t n, size_t values) {
     }
     fill_near(&table, values, 0, 0);
     for (size_t i = 0; i < values; i++) start_of(&table)[i] = (uint8_t)((2 * i + 1) * 256 / (2 * values));
+    count = plain_list_O2(n, list);
 }
 
-static depth_bench_choice choose_with(int who, size_t n, uint32_t reach, int i) {
+/* A choice for block i, with the list lent or with the list built for it. */
+static depth_bench_choice choose_with(int who, int built, size_t n, uint32_t reach, int i) {
     const uint8_t *b = start_of(&borders[i]), *o = start_of(&originals[i]), *t = start_of(&textures[i]), *v = start_of(&table);
+    uint64_t own[LIST];
+    const uint64_t *l = built ? own : list;
+    size_t c = count;
+    if (who == BENCH && built) return depth_bench_choose(n, b, 4 * n, o, n * n, v, table.len, reach, t, n * n);
+    if (who == BENCH) return file_calls_choose(n, list, LIST, count, b, 4 * n, o, n * n, v, table.len, reach, t, n * n);
+    if (built) c = who == PLAIN2 ? plain_list_O2(n, own) : who == PLAIN3 ? plain_list_O3(n, own) : fast_list(n, own);
     switch (who) {
-    case 0: return depth_bench_choose(n, b, 4 * n, o, n * n, v, table.len, reach, t, n * n);
-    case 1: return plain_choose_O2(n, b, o, v, table.len, reach, t);
-    case 2: return plain_choose_O3(n, b, o, v, table.len, reach, t);
-    default: return rust_choose(n, b, 4 * n, o, n * n, v, table.len, reach, t, n * n);
+    case PLAIN2: return plain_choose_O2(n, l, c, b, o, v, table.len, reach, t);
+    case PLAIN3: return plain_choose_O3(n, l, c, b, o, v, table.len, reach, t);
+    default: return fast_choose(n, l, c, b, o, v, table.len, reach, t);
     }
 }
 
-/* Seconds for one choice, the least of several rounds. */
-static double choice_time(int who, size_t n, uint32_t reach, int rounds) {
-    double best = 1e9;
-    for (int r = 0; r < rounds; r++) {
-        double start = now();
-        for (int i = 0; i < 4; i++) check += choose_with(who, n, reach, i).cost;
-        double spent = (now() - start) / 4;
-        if (spent < best) best = spent;
+/* Whether all answer the same for the first blocks. */
+static int agree(size_t n, uint32_t reach) {
+    for (int i = 0; i < 2; i++) for (int who = BENCH; who <= SAME; who++) for (int built = 0; built < 2; built++) {
+        depth_bench_choice a = choose_with(BENCH, 0, n, reach, i), b = choose_with(who, built, n, reach, i);
+        if (a.refusal != 0 || b.refusal != 0 || a.kind != b.kind || a.entry != b.entry) return 0;
+        if (a.off0 != b.off0 || a.off1 != b.off1 || a.cost != b.cost) return 0;
     }
-    return best;
+    return 1;
+}
+
+/* Seconds for one choice by each: the mean over the blocks of the least of several rounds. The plain loops take two blocks, the others all
+   in turn, so that no branch is learnt by heart. */
+static void choice_times(int built, size_t n, uint32_t reach, double mean[4]) {
+    static double least[4][BLOCKS];
+    for (int who = BENCH; who <= SAME; who++) for (int i = 0; i < BLOCKS; i++) least[who][i] = 1e9;
+    for (int r = 0; r < 12; r++) for (int who = BENCH; who <= SAME; who++) {
+        int plain = who == PLAIN2 || who == PLAIN3;
+        for (int i = 0; i < (plain ? r < 3 ? 2 : 0 : BLOCKS); i++) {
+            double start = now();
+            check += choose_with(who, built, n, reach, i).cost;
+            double spent = now() - start;
+            if (spent < least[who][i]) least[who][i] = spent;
+        }
+    }
+    for (int who = BENCH; who <= SAME; who++) {
+        int blocks = who == PLAIN2 || who == PLAIN3 ? 2 : BLOCKS;
+        mean[who] = 0;
+        for (int i = 0; i < blocks; i++) mean[who] += least[who][i] / blocks;
+    }
 }
 
 static double predict_time(int who, size_t n, uint64_t word) {
@@ -63,7 +103,7 @@ static double predict_time(int who, size_t n, uint64_t word) {
         double start = now();
         for (int i = 0; i < 20000; i++) {
             const uint8_t *b = start_of(&borders[i % BLOCKS]);
-            if (who == 0) depth_bench_predict(n, word ^ (uint64_t)i, b, 4 * n, v, table.len, -1, 1, out, n * n);
+            if (who == BENCH) depth_bench_predict(n, word ^ (uint64_t)i, b, 4 * n, v, table.len, -1, 1, out, n * n);
             else plain_predict_O2(n, word ^ (uint64_t)i, b, v, table.len, -1, 1, out);
             check += out[i % (n * n)];
         }
@@ -73,29 +113,48 @@ static double predict_time(int who, size_t n, uint64_t word) {
     return best;
 }
 
-int main(void) {
+/* Seconds for the checks of a choice: a reach of 256 is refused after table and list words are judged. */
+static double checks_time(size_t n) {
+    double best = 1e9;
+    for (int r = 0; r < 9; r++) {
+        double start = now();
+        for (int i = 0; i < 1000; i++) check += choose_with(BENCH, 0, n, 256, i % BLOCKS).refusal;
+        double spent = (now() - start) / 1000;
+        if (spent < best) best = spent;
+    }
+    return best;
+}
+
+/* A table of all sizes, table lengths and reaches; whether all answers agree. */
+static int choices(int built) {
     static const size_t counts[] = { 1, 3, 32, 256 };
     static const uint32_t reaches[] = { 0, 5, 255 };
-    random_state = 20261115;
-    inputs(8, 256);
-    for (int i = 0; i < 2; i++) for (int who = 1; who < 4; who++) {
-        depth_bench_choice a = choose_with(0, 8, 255, i), b = choose_with(who, 8, 255, i);
-        if (a.cost != b.cost || a.entry != b.entry || a.off0 != b.off0 || a.off1 != b.off1) { printf("answers differ\n"); return 1; }
-    }
-    double bench = choice_time(0, 8, 255, 5);
-    printf("choose, n = 8, 256 values, reach 255: %.0f microseconds\n", 1e6 * bench);
-    printf("  bench / plain C -O2        %.3f\n", bench / choice_time(1, 8, 255, 2));
-    printf("  bench / plain C -O3        %.3f\n", bench / choice_time(2, 8, 255, 2));
-    printf("  bench / same method, Rust  %.3f\n", bench / choice_time(3, 8, 255, 5));
-    double predict = predict_time(0, 8, 0xFFFFFFFF00000000u);
-    printf("predict, n = 8, 256 values: %.2f microseconds\n", 1e6 * predict);
-    printf("  bench / plain C -O2        %.3f\n", predict / predict_time(1, 8, 0xFFFFFFFF00000000u));
-    printf("choose, microseconds by n, table values and reach\n");
+    printf("| choose, the list %s | reach 0 | reach 5 | reach 255 |\n|---|---|---|---|\n", built ? "built" : "lent");
     for (size_t n = 4; n <= 8; n += 4) for (int c = 0; c < 4; c++) {
+        printf("| n = %zu, %zu value%s |", n, counts[c], counts[c] == 1 ? "" : "s");
         inputs(n, counts[c]);
-        printf("  n = %zu, %3zu values:", n, counts[c]);
-        for (int r = 0; r < 3; r++) printf("  reach %3u %6.0f", reaches[r], 1e6 * choice_time(0, n, reaches[r], 3));
+        for (int r = 0; r < 3; r++) {
+            double mean[4];
+            if (!agree(n, reaches[r])) { printf("\nanswers differ\n"); return 0; }
+            choice_times(built, n, reaches[r], mean);
+            printf(" %.1f (%.4f, %.4f, %.2f) |", 1e6 * mean[BENCH], mean[BENCH] / mean[PLAIN2], mean[BENCH] / mean[PLAIN3],
+                mean[BENCH] / mean[SAME]);
+        }
         printf("\n");
     }
+    return 1;
+}
+
+int main(void) {
+    random_state = 20261115;
+    printf("microseconds a choice (ratios to plain C -O2, plain C -O3, the same method in C -O3)\n");
+    for (int built = 0; built < 2; built++) if (!choices(built)) return 1;
+    printf("checks of a choice, 256 values: n = 8 %.2f microseconds", 1e6 * checks_time(8));
+    inputs(4, 256);
+    printf(", n = 4 %.2f microseconds\n", 1e6 * checks_time(4));
+    inputs(8, 256);
+    double predict = predict_time(BENCH, 8, 0xFFFFFFFF00000000u);
+    printf("predict, n = 8, 256 values: %.2f microseconds, ratio to plain C -O2 %.3f\n", 1e6 * predict,
+        predict / predict_time(PLAIN2, 8, 0xFFFFFFFF00000000u));
     return check == 0;
 }

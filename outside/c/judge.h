@@ -1,4 +1,4 @@
-/* The independent implementation, and the bench's algorithm in Rust, behind C's calls: the library that outside/judge builds. */
+/* The independent implementation behind C's calls: the library that outside/judge builds. */
 #ifndef JUDGE_H
 #define JUDGE_H
 
@@ -9,7 +9,5 @@ depth_bench_prediction judge_predict(size_t n, uint64_t word, const uint8_t *bor
 depth_bench_choice judge_choose(size_t n, const uint8_t *border, size_t border_len, const uint8_t *original, size_t original_len,
     const uint8_t *table, size_t table_len, uint32_t reach, const uint8_t *texture, size_t texture_len);
 depth_bench_pattern judge_pattern_of(size_t n, uint32_t kind, uint32_t entry, const uint8_t *texture, size_t texture_len);
-depth_bench_choice rust_choose(size_t n, const uint8_t *border, size_t border_len, const uint8_t *original, size_t original_len,
-    const uint8_t *table, size_t table_len, uint32_t reach, const uint8_t *texture, size_t texture_len);
 
 #endif

@@ -77,10 +77,11 @@ static uint64_t candidate(int32_t n, int32_t s, int32_t e) {
     return word & 1 ? all ^ word : word;
 }
 
-static size_t build(int32_t n, uint64_t *list) {
+size_t plain_list(size_t n, uint64_t *list) {
     size_t count = 0;
-    for (int32_t s = 0; s < 4 * n - 4; s++) for (int32_t e = 0; e < 4 * n - 4; e++) {
-        uint64_t word = candidate(n, s, e);
+    int32_t points = 4 * (int32_t)n - 4;
+    for (int32_t s = 0; s < points; s++) for (int32_t e = 0; e < points; e++) {
+        uint64_t word = candidate((int32_t)n, s, e);
         size_t k = 0;
         while (k < count && list[k] != word) k++;
         if (word != 0 && k == count) list[count++] = word;
@@ -88,10 +89,9 @@ static size_t build(int32_t n, uint64_t *list) {
     return count;
 }
 
-depth_bench_choice plain_choose(size_t n, const uint8_t *border, const uint8_t *original, const uint8_t *table, size_t table_len,
-    uint32_t reach, const uint8_t *texture) {
-    uint64_t list[756], outline = 0;
-    size_t count = build((int32_t)n, list);
+depth_bench_choice plain_choose(size_t n, const uint64_t *list, size_t count, const uint8_t *border, const uint8_t *original,
+    const uint8_t *table, size_t table_len, uint32_t reach, const uint8_t *texture) {
+    uint64_t outline = 0;
     depth_bench_choice best = { 0, 0, 0, 0, 0, UINT32_MAX };
     for (size_t k = 0; k < count; k++) weigh(n, list[k], border, original, table, table_len, reach, 0, (uint32_t)k, &best);
     if (texture == NULL) return best;

@@ -1,4 +1,4 @@
-/* Prediction and choice by plain loops in C, for sound input: what the bench's speed is compared with. */
+/* Prediction, the edge list and choice by plain loops in C, for sound input: what the bench's speed is compared with. */
 #ifndef PLAIN_H
 #define PLAIN_H
 
@@ -6,7 +6,11 @@
 
 void plain_predict(size_t n, uint64_t word, const uint8_t *border, const uint8_t *table, size_t table_len, int32_t off0, int32_t off1,
     uint8_t *block);
-depth_bench_choice plain_choose(size_t n, const uint8_t *border, const uint8_t *original, const uint8_t *table, size_t table_len,
-    uint32_t reach, const uint8_t *texture);
+
+/* Writes the edge list for n to 756 words and answers its count. */
+size_t plain_list(size_t n, uint64_t *list);
+
+depth_bench_choice plain_choose(size_t n, const uint64_t *list, size_t count, const uint8_t *border, const uint8_t *original,
+    const uint8_t *table, size_t table_len, uint32_t reach, const uint8_t *texture);
 
 #endif

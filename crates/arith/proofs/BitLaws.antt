@@ -88,7 +88,7 @@ bits-at f k i h =
 
 -- ---- a number is made of its own bits
 
-digit-of : (x : ℕ) → x < 2 → bit (eqb x 1) ≡ x
+pub digit-of : (x : ℕ) → x < 2 → bit (eqb x 1) ≡ x
 digit-of zero h = refl
 digit-of (suc zero) h = refl
 digit-of (suc (suc x)) h = absurd (omega arith)

@@ -1,12 +1,14 @@
 -- What the search answers step by step: the best offsets of a pattern, and the best pattern. Assumes nothing.
-use Prim.Native.Nat.{ℕ, _*_, _≤_}
+use Prim.Native.Nat.{ℕ, _*_, _≤_, _<_}
 use mathlib.Core.Path.{_≡_}
 use mathlib.Core.Bool.{true, false}
 use mathlib.Core.List.{List, []}
-use lib.ListN.{length}
-use Rattle.depth_table.specs.Table.{tableOk}
+use lib.ListN.{length, getD}
+use Rattle.depth_table.specs.Table.{tableOk, indexOf}
+use Rattle.side_cost.specs.Layers.{Layered}
 use Rattle.sides.specs.Answer.{sidesRefusal}
 use Rattle.choice_checks.specs.Case.{Case, caseOf}
+use Rattle.choice.specs.Cases.{depthIn}
 use Rattle.choice.specs.Search.{bestTrial, bestCost, patternAt, bestPattern}
 
 -- a case without patterns: what the cost of one pattern depends on
@@ -19,6 +21,14 @@ pub record Weighable (n w : ℕ) (neighbours original table : List ℕ) (reach :
   pub square : length original ≡ n * n
   pub sound : tableOk table ≡ true
   pub near : reach ≤ 255
+
+-- what is worked out once for a block: the layers of its samples, and the index of the depth in each of the eight cases
+abbrev pub CaseIndices : ℕ → ℕ → List ℕ → List ℕ → List ℕ → Type 0
+CaseIndices m n neighbours table indices = (k : ℕ) → k < m → getD indices k 0 ≡ indexOf table (depthIn n neighbours k)
+
+pub record Prepared (n : ℕ) (neighbours original table below planes indices : List ℕ) : Type 0 where
+  pub layers : Layered original below planes
+  pub index-at : CaseIndices 8 n neighbours table indices
 
 -- the numbers of the best offsets of a pattern, and its cost there
 pub record SidesOf (C : Case) (w trial0 trial1 cost : ℕ) : Type 0 where

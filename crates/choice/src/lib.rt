@@ -1,5 +1,9 @@
 // The choice of a record (document 01, "Choice").
 mod answer;
+mod cases;
+mod layers;
+mod offsets;
+mod parts;
 mod search;
 
 pub use answer::choose;

@@ -1,19 +1,40 @@
 // The best offsets of a pattern, and the pattern of least cost.
 ghost use mathlib.Core.Path.{_≡_};
-ghost use mathlib.Core.Bool.{cond};
+ghost use mathlib.Core.Bool.{true, cond};
 ghost use mathlib.Core.Logic.{_⊎_};
 ghost use Prim.Native.Nat.{_-_, _*_, _≤_};
 ghost use lib.Dec.{ltb};
 ghost use lib.ListN.{length, getD};
 ghost use Rattle.pattern.specs.Answer.{samplesRefusal};
+ghost use Rattle.pattern.specs.Size.{sizeOk};
 ghost use Rattle.pattern.specs.Contour.{contourOf};
 ghost use Rattle.side_cost.specs.Trial.{TrialOf};
 ghost use Rattle.choice_checks.specs.Case.{caseOf};
 ghost use Rattle.choice_checks.specs.Refusal.{chooseRefusal};
 ghost use Rattle.choice.specs.Search.{trialCost};
-ghost use Rattle.choice.specs.Picked.{blockCase, Weighable, SidesOf, PickedOf};
+ghost use Rattle.choice.specs.Picked.{blockCase, Weighable, Prepared, CaseIndices, SidesOf, PickedOf};
+use crate::cases::case_depth;
+use crate::cases::side_case;
+use crate::layers::below_layers;
+use crate::layers::bit_planes;
+use crate::offsets::Trial;
+use crate::offsets::best_of_part;
+use crate::parts::side_word;
+use depth_table::DepthIndex;
 use pattern::Contoured;
-use side_cost::Trial;
+
+// The index of the depth in each of the eight cases.
+fn case_indices(n: usize, border: &[u8], table: &[u8]) -> [usize; 8]
+    requires { ⌜ (sizeOk n ≡ true) × (length (now border) ≡ 4 * n) ⌝ }
+    ensures { λ r. ⌜ CaseIndices 8 n (now (border .entry)) (now (table .entry)) r ⌝ }
+{
+    let mut indices = [0usize; 8];
+    for k in 0..8 {
+        let index = depth_table::nearest_index(table, case_depth(n, border, k));
+        indices[k] = index.0;
+    }
+    indices
+}
 
 // The first best offset of a partition of a pattern, and what the partition costs there.
 fn best_offset(
@@ -24,14 +45,19 @@ fn best_offset(
     original: &[u8],
     table: &[u8],
     reach: usize,
+    below: &[u64; 257],
+    planes: &[u64; 8],
+    indices: &[usize; 8],
 ) -> Trial
-    requires { ⌜ Weighable n word (now border) (now original) (now table) reach ⌝ }
-    ensures { λ r. ⌜ TrialOf (trialCost (blockCase n (now (border .entry)) (now (original .entry)) (now (table .entry)) reach) word side) (2 * reach) (r .number) (r .cost) × (r .cost ≤ 65280) ⌝ }
+    requires { ⌜ Weighable n word (now border) (now original) (now table) reach
+        × Prepared n (now border) (now original) (now table) (now below) (now planes) (now indices) ⌝ }
+    ensures { λ r. ⌜ TrialOf (trialCost (blockCase n (now (border .entry)) (now (original .entry)) (now (table .entry)) reach) word side)
+        (2 * reach) (r .number) (r .cost) × (r .cost ≤ 65280) ⌝ }
 {
-    let depth = sides::side_depth(n, word, border, side);
-    let index = depth_table::nearest_index(table, depth);
-    let costs = side_cost::side_costs(original, word, side);
-    side_cost::best_of_costs(&costs, table, index, reach)
+    let part = side_word(below, word, side);
+    let k = side_case(n, word, side);
+    let at = indices[k];
+    best_of_part(original, below, planes, part, table, DepthIndex(at), reach)
 }
 
 // The numbers of the best offsets of both partitions of a pattern, and what it costs there.
@@ -49,12 +75,39 @@ fn best_sides(
     original: &[u8],
     table: &[u8],
     reach: usize,
+    below: &[u64; 257],
+    planes: &[u64; 8],
+    indices: &[usize; 8],
 ) -> Sides
-    requires { ⌜ Weighable n word (now border) (now original) (now table) reach ⌝ }
-    ensures { λ r. ⌜ SidesOf (blockCase n (now (border .entry)) (now (original .entry)) (now (table .entry)) reach) word (r .trial0) (r .trial1) (r .cost) ⌝ }
+    requires { ⌜ Weighable n word (now border) (now original) (now table) reach
+        × Prepared n (now border) (now original) (now table) (now below) (now planes) (now indices) ⌝ }
+    ensures { λ r. ⌜ SidesOf (blockCase n (now (border .entry)) (now (original .entry)) (now (table .entry)) reach) word
+        (r .trial0) (r .trial1) (r .cost) ⌝ }
 {
-    let unmarked = best_offset(n, word, false, border, original, table, reach);
-    let marked = best_offset(n, word, true, border, original, table, reach);
+    let unmarked = best_offset(
+        n,
+        word,
+        false,
+        border,
+        original,
+        table,
+        reach,
+        below,
+        planes,
+        indices,
+    );
+    let marked = best_offset(
+        n,
+        word,
+        true,
+        border,
+        original,
+        table,
+        reach,
+        below,
+        planes,
+        indices,
+    );
     Sides {
         trial0: unmarked.number,
         trial1: marked.number,
@@ -116,6 +169,9 @@ pub(crate) fn best_pattern(
     requires { ⌜ chooseRefusal (caseOf n (now list) count (now border) (now original) (now table) reach (now texture)) ≡ 0 ⌝ }
     ensures { λ r. ⌜ PickedOf (caseOf n (now (list .entry)) count (now (border .entry)) (now (original .entry)) (now (table .entry)) reach (now (texture .entry))) (r .number) (r .trial0) (r .trial1) (r .cost) ⌝ }
 {
+    let below = below_layers(original);
+    let planes = bit_planes(original);
+    let indices = case_indices(n, border, table);
     let contour = contour_or_none(n, texture);
     let end = last_pattern(count, texture.len()) + 1;
     let mut at: usize = 0;
@@ -126,6 +182,9 @@ pub(crate) fn best_pattern(
         original,
         table,
         reach,
+        &below,
+        &planes,
+        &indices,
     );
     for p in 1..end {
         let next = best_sides(
@@ -135,6 +194,9 @@ pub(crate) fn best_pattern(
             original,
             table,
             reach,
+            &below,
+            &planes,
+            &indices,
         );
         if next.cost < best.cost {
             at = p;

@@ -1,9 +1,12 @@
--- The structs that the calls return: what `read` answered, field by field, and what `write` answered. Assumes nothing.
+-- The structs that the calls return: what `read` answered, field by field, what `write` answered, and what `choose` answered. Assumes nothing.
 use Prim.Native.Nat.{ℕ}
+use lib.IntN.{pos}
 use Rattle.arith.specs.Checks.{Answer, refused, given}
+use Rattle.choice.specs.Record.{Record}
 use Rattle.record_read.specs.declared.reading.FileBack.{FileBack}
 use Rattle.file_calls.specs.declared.FileRead.{FileRead}
 use Rattle.file_calls.specs.declared.FileWritten.{FileWritten}
+use Rattle.file_calls.specs.declared.FileChosen.{FileChosen}
 
 -- what `read` answered beside a refusal number, and beside its own
 abbrev pub answeredBy : ℕ → FileBack → FileRead
@@ -17,3 +20,8 @@ fileReadOf b = answeredBy (b .refusal) b
 abbrev pub fileWrittenOf : Answer ℕ → FileWritten
 fileWrittenOf (refused number) = record { refusal = number; length = 0 }
 fileWrittenOf (given count) = record { refusal = 0; length = count }
+
+-- a refusal has its number, and 0 in the other fields
+abbrev pub chosenOf : Answer (Record × ℕ) → FileChosen
+chosenOf (refused number) = record { refusal = number; kind = 0; entry = 0; off0 = pos 0; off1 = pos 0; cost = 0 }
+chosenOf (given (r, cost)) = record { refusal = 0; kind = r .kind; entry = r .entry; off0 = r .off0; off1 = r .off1; cost = cost }

@@ -1,7 +1,9 @@
-// The record file's calls for the outside tests and the benchmark: the tests link libfile_calls.a. They are not part of
-// include/depth_bench.h.
+// Calls for the outside tests and the benchmarks, which link libfile_calls.a: those of the record file, and the choice with the list lent. They
+// are not part of include/depth_bench.h.
 ghost use mathlib.Core.Path.{_≡_};
 ghost use lib.ListN.{length};
+ghost use Rattle.choice_checks.specs.Case.{caseOf};
+ghost use Rattle.choice.specs.Answer.{chooseAnswer};
 ghost use Rattle.sheet.specs.State.{stateOf};
 ghost use Rattle.sheet_checks.specs.Checks.{recordsLent};
 ghost use Rattle.record_file.specs.Text.{recordAt};
@@ -10,7 +12,8 @@ ghost use Rattle.record_file.specs.Reading.{aidsOf, readFile};
 ghost use Rattle.record_lines.specs.Stored.{Slices};
 ghost use Rattle.record_lines.specs.Back.{recordsBack, leaving};
 ghost use Rattle.record_read.specs.Back.{fileBack, samplesBack};
-ghost use Rattle.file_calls.specs.Structs.{fileReadOf, fileWrittenOf};
+ghost use Rattle.file_calls.specs.Structs.{fileReadOf, fileWrittenOf, chosenOf};
+use choice::Choice;
 use record_write::Wrote;
 use sheet::Sheet;
 
@@ -32,6 +35,17 @@ pub struct FileRead {
 pub struct FileWritten {
     pub refusal: u32,
     pub length: usize,
+}
+
+// What a choice answers: the record of least cost and its cost, or the number of the refusal beside 0.
+#[repr(C)]
+pub struct FileChosen {
+    pub refusal: u32,
+    pub kind: u32,
+    pub entry: u32,
+    pub off0: i32,
+    pub off1: i32,
+    pub cost: u32,
 }
 
 // A byte as a longer number.
@@ -113,6 +127,42 @@ pub extern "C" fn file_calls_write(
         Wrote::Refused(number) => FileWritten {
             refusal: wide(number),
             length: 0,
+        },
+    }
+}
+
+// The record of least cost, as `choice::choose` finds it in the lent list.
+#[no_mangle]
+pub extern "C" fn file_calls_choose(
+    n: usize,
+    list: &[u64],
+    count: usize,
+    border: &[u8],
+    original: &[u8],
+    table: &[u8],
+    reach: u32,
+    texture: &[u8],
+) -> FileChosen
+    ensures { λ r. ⌜ r ≡ chosenOf (chooseAnswer (caseOf n (now (list .entry)) count (now (border .entry)) (now (original .entry))
+        (now (table .entry)) reach (now (texture .entry)))) ⌝ }
+{
+    let answer = choice::choose(n, list, count, border, original, table, reach, texture);
+    match answer {
+        Choice::Chosen(best) => FileChosen {
+            refusal: 0,
+            kind: best.kind,
+            entry: best.entry,
+            off0: best.off0,
+            off1: best.off1,
+            cost: best.cost,
+        },
+        Choice::Refused(refusal) => FileChosen {
+            refusal: wide(refusal),
+            kind: 0,
+            entry: 0,
+            off0: 0,
+            off1: 0,
+            cost: 0,
         },
     }
 }

@@ -3,3 +3,7 @@ pub mod OffsetLaws
 pub mod CostLaws
 pub mod TallyLaws
 pub mod TrialLaws
+pub mod LayerLaws
+pub mod TurnLaws
+pub mod BuildLaws
+pub mod FindLaws

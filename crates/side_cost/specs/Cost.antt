@@ -2,11 +2,9 @@
 use Prim.Native.Nat.{ℕ}
 use mathlib.Core.Bool.{Bool, cond, not}
 use mathlib.Core.List.{List}
-use lib.Dec.{leb}
-use lib.ListN.{length, getD, replicate}
+use lib.ListN.{getD}
 use Rattle.arith.specs.Bits.{testBit}
 use Rattle.arith.specs.Distance.{dist}
-use Rattle.arith.specs.Lists.{listOf}
 use Rattle.arith.specs.Sum.{sumTo}
 
 -- whether sample k belongs to partition m of the pattern w: partition 1 has the marked samples, partition 0 the others
@@ -16,7 +14,3 @@ belongs w m k = cond m (testBit w k) (not (testBit w k))
 -- what the samples of partition m, of the first c, cost where all of them are predicted as v
 unfoldable pub sideCost : ℕ → List ℕ → ℕ → Bool → ℕ → ℕ
 sideCost c samples w m v = sumTo (λ k. cond (belongs w m k) (dist v (getD samples k 0)) 0) c
-
--- `side_costs` gives what all of them cost at each depth value 0 .. 255; with more than 256 samples each cost is 0
-unfoldable pub sideCosts : List ℕ → ℕ → Bool → List ℕ
-sideCosts samples w m = cond (leb (length samples) 256) (listOf (sideCost (length samples) samples w m) 256) (replicate 256 0)

@@ -3,3 +3,5 @@ pub mod Offset
 pub mod Cost
 pub mod Tally
 pub mod Trial
+pub mod Layers
+pub mod Turn

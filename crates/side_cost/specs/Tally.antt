@@ -1,13 +1,12 @@
 -- The counts of a partition's samples. Assumes nothing.
-use Prim.Native.Nat.{ℕ, _<_}
-use mathlib.Core.Path.{_≡_}
+use Prim.Native.Nat.{ℕ}
 use mathlib.Core.Bool.{Bool, true, _&&_}
 use mathlib.Core.List.{List}
 use lib.Dec.{eqb, ltb}
-use lib.ListN.{length, getD}
+use lib.ListN.{getD}
 use Rattle.arith.specs.Bits.{bit}
 use Rattle.arith.specs.Sum.{sumTo}
-use Rattle.side_cost.specs.Cost.{belongs, sideCost}
+use Rattle.side_cost.specs.Cost.{belongs}
 
 -- how many samples of partition m, of the first c, pass a test
 unfoldable pub sideCount : ℕ → List ℕ → ℕ → Bool → (ℕ → Bool) → ℕ
@@ -22,10 +21,3 @@ sideEqual c samples w m v = sideCount c samples w m (λ x. eqb x v)
 
 abbrev pub sideBelow : ℕ → List ℕ → ℕ → Bool → ℕ → ℕ
 sideBelow c samples w m v = sideCount c samples w m (λ x. ltb x v)
-
--- the tally of the first c samples: the count of each value, the number of samples, and their sum, which is what they cost at 0
-pub record Tallied (c : ℕ) (samples : List ℕ) (w : ℕ) (m : Bool) (counts : List ℕ) (size sum : ℕ) : Type 0 where
-  pub room : length counts ≡ 256
-  pub equal : (v : ℕ) → v < 256 → getD counts v 0 ≡ sideEqual c samples w m v
-  pub all : size ≡ sideSize c samples w m
-  pub total : sum ≡ sideCost c samples w m 0

@@ -3,12 +3,12 @@ ghost use mathlib.Core.Path.{_≡_};
 ghost use Prim.Native.Nat.{_+_, _*_, _^_, _≤_, _<_};
 ghost use lib.ListN.{length, drop};
 ghost use mathlib.Core.List.{_++_};
+ghost use Rattle.arith.specs.Bits.{bit};
 ghost use Rattle.pattern.specs.Pattern.{pattern, complement};
 ghost use Rattle.wedgelet.specs.Wedgelet.{pointX, pointY, beside, wedgelet, wedgeletList};
 ghost use Rattle.wedgelet.specs.Answer.{needed, listRefusal, listAnswer, listAfter};
 ghost use Rattle.wedgelet.specs.Told.{listTold};
 use pattern::size_ok;
-use pattern::with_bit;
 
 // What building the list answers: the number of its words, or the number of the refusal.
 pub enum Listed {
@@ -71,6 +71,17 @@ fn inverted(n: usize, w: u64) -> u64
     (u64::MAX >> (64 - n * n)) - w
 }
 
+// The word with mark k where `on` holds; it has no mark from k up.
+fn with_mark(word: u64, k: usize, on: bool) -> u64
+    requires { ⌜ (k < 64) × (word < 2 ^ k) ⌝ }
+    ensures { λ r. ⌜ r ≡ word + bit on * 2 ^ k ⌝ }
+{
+    if on {
+        return word + (1 << k);
+    }
+    word
+}
+
 // The pattern of the samples beside the line from (xs, ys) to (xe, ye).
 fn marks_beside(n: usize, xs: usize, ys: usize, xe: usize, ye: usize) -> u64
     requires { ⌜ (1 ≤ n) × (n ≤ 8) × (xs < 16) × (ys < 16) × (xe < 16) × (ye < 16) ⌝ }
@@ -79,7 +90,7 @@ fn marks_beside(n: usize, xs: usize, ys: usize, xe: usize, ye: usize) -> u64
     let mut w: u64 = 0;
     for i in 0..n * n {
         let on = is_beside(xs, ys, xe, ye, i % n, i / n);
-        w = with_bit(w, i, on);
+        w = with_mark(w, i, on);
     }
     w
 }

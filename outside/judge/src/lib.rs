@@ -1,7 +1,4 @@
-//! The independent implementation behind C's calls, so that a C program can compare it with `libdepth_bench.a`,
-//! and the bench's own algorithm in Rust, to compare speeds with.
-
-mod tallied;
+//! The independent implementation behind C's calls, so that a C program can compare it with `libdepth_bench.a`.
 
 use reference::choice::{choose, pattern_of, Request};
 use reference::edges::edge_list;
@@ -126,32 +123,4 @@ pub unsafe extern "C" fn judge_pattern_of(
         Ok(word) => Pattern { refusal: 0, word: [word, 0, 0, 0] },
         Err(refusal) => Pattern { refusal, ..Pattern::default() },
     }
-}
-
-/// The bench's algorithm in Rust, for sound input: see `tallied`.
-///
-/// # Safety
-/// Each pointer is not null and has as many bytes as its length says.
-#[no_mangle]
-#[allow(clippy::too_many_arguments)]
-pub unsafe extern "C" fn rust_choose(
-    n: usize,
-    border: *const u8,
-    border_len: usize,
-    original: *const u8,
-    original_len: usize,
-    table: *const u8,
-    table_len: usize,
-    reach: u32,
-    texture: *const u8,
-    texture_len: usize,
-) -> Choice {
-    tallied::choose(
-        n,
-        lent(border, border_len),
-        lent(original, original_len),
-        lent(table, table_len),
-        reach as usize,
-        lent(texture, texture_len),
-    )
 }

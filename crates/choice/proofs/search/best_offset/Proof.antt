@@ -1,33 +1,65 @@
--- `best_offset` meets its contract: the costs by value, read at the clamped index, are those at the offsets. Assumes nothing.
-use Rattle.choice.proofs.WeighLaws.{trial-weighed}
+-- `best_offset` meets its contract: the part is the partition, and the index that of its depth. Assumes nothing.
+use native.Mathlib.Omega.{arith}
+use borrow.Author.Needs.{needs}
+use Prim.Native.Nat.{ℕ, _<_}
+use lib.ListN.{getD}
+use Rattle.sides.proofs.CallLaws.{sides-bounds}
+use Rattle.choice.proofs.WeighLaws.{word-inside, part-small, findable, trial-weighed}
 use Rattle.choice.proofs.search.best_offset.Statement.{statement}
 use Rattle.choice.proofs.search.best_offset.Tie as tie
 
-side-depth-requires : tie.Need-side-depth-requires
-side-depth-requires c κs = tt
+side-word-requires : tie.Need-side-word-requires
+side-word-requires c κs =
+    let k = c .before in
+    let s = k .before .before in
+    word-inside _ _ _ _ _ _ (s .pre .0) _ _ _ (s .pre .1) (λ i. k .shared-slice-known2 .given i .fits)
 
-nearest-index-requires : tie.Need-nearest-index-requires
-nearest-index-requires c κs = tt
+side-case-requires : tie.Need-side-case-requires
+side-case-requires c κs =
+    let s = c .before .before .before .before in
+    let b = sides-bounds _ _ _ (s .pre .0 .sides) in
+    (b .0, b .1)
 
-side-costs-requires : tie.Need-side-costs-requires
-side-costs-requires c κs = tt
+mul-at : tie.Need-mul-at
+mul-at c =
+    let case = c .side-case .ensures in
+    omega (arith, case .1)
 
-best-of-costs-requires : tie.Need-best-of-costs-requires
-best-of-costs-requires c κs = tt
+element-copy-out-at : tie.Need-element-copy-out-at
+element-copy-out-at c =
+    let case = c .side-case .ensures in
+    omega (arith, case .1)
+
+best-of-part-requires : tie.Need-best-of-part-requires
+best-of-part-requires c κs =
+    let k = c .before .before .before .before in
+    let s = k .before .before in
+    let bytes : (i : ℕ) → getD (s .args .original .now) i 0 < 256 = λ i. k .shared-slice-known2 .given i .fits in
+    let case = c .before .side-case .ensures in
+    let part = c .before .before .side-word .ensures in (
+      s .pre .1 .layers,
+      part-small _ _ _ _ _ _ (s .pre .0) _ _ _ (s .pre .1) bytes (s .args .side) (case .0) (case .1) part,
+      findable _ _ _ _ _ _ (s .pre .0) _ _ _ (s .pre .1) bytes (s .args .side) (case .0) (case .1) part,
+    )
 
 returns : tie.Need-returns
 returns c =
-    let slices = c .before .before .before .before .before .before in
-    let s = slices .before .before in
-    trial-weighed _ _ _ _ _ _ (s .pre) (s .args .side) (c .before .before .before .nearest-index .ensures) (c .before .before .before .before .side-depth .ensures)
-    (λ k. slices .shared-slice-known2 .given k .fits) (c .before .before .side-costs .ensures) (c .best-of-costs .ensures)
+    let k = c .before .before .before .before .before in
+    let s = k .before .before in
+    let bytes : (i : ℕ) → getD (s .args .original .now) i 0 < 256 = λ i. k .shared-slice-known2 .given i .fits in
+    let case = c .before .before .side-case .ensures in
+    let part = c .before .before .before .side-word .ensures in (
+      trial-weighed _ _ _ _ _ _ (s .pre .0) _ _ _ (s .pre .1) bytes (s .args .side) (case .0) (case .1) part (c .best-of-part .ensures .0),
+      c .best-of-part .ensures .1,
+    )
 
 pub best-offset-spec : {M : Type 1} → statement M
 best-offset-spec =
     tie.close
     (tie.spec
-    side-depth-requires
-    nearest-index-requires
-    side-costs-requires
-    best-of-costs-requires
+    side-word-requires
+    side-case-requires
+    mul-at
+    element-copy-out-at
+    best-of-part-requires
     returns)

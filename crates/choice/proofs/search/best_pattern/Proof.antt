@@ -7,18 +7,20 @@ use native.Mathlib.Omega.{arith}
 use borrow.Author.Needs.{needs}
 use lib.Dec.{ltb}
 use lib.ListN.{length}
+use Rattle.pattern.proofs.SizeLaws.{size-bounds, square-64}
 use Rattle.choice_checks.specs.Case.{Case, caseOf}
 use Rattle.choice_checks.proofs.AcceptLaws.{Accepted, accepted}
+use Rattle.choice.specs.Picked.{Prepared}
 use Rattle.choice.proofs.SearchLaws.{sides-at, texture-judged, pattern-by, last-le, weighable, KeptSides, sides-one, sides-new, sides-old, sides-all}
 use Rattle.choice.proofs.search.best_pattern.Statement.{statement}
 use Rattle.choice.proofs.search.best_pattern.Tie as tie
 
 abbrev Inv-loop : tie.InvT-loop
-Inv-loop n list count border original table reach texture contour end at₀ best₀ p₀ at best p =
+Inv-loop n list count border original table reach texture below planes indices contour end at₀ best₀ p₀ at best p =
     (1 ≤ p) × (p ≤ end) × (end ≤ 10000) × KeptSides (caseOf n list count border original table reach texture) p at (best .trial0) (best .trial1) (best .cost)
 
 abbrev μ-loop : tie.MeasureT-loop
-μ-loop n list count border original table reach texture contour end at₀ best₀ p₀ at best p = end - p
+μ-loop n list count border original table reach texture below planes indices contour end at₀ best₀ p₀ at best p = end - p
 
 -- the case, and that it is not refused
 abbrev given : (c : tie.Start Inv-loop μ-loop) → Case
@@ -29,44 +31,73 @@ given c =
 fine : (c : tie.Start Inv-loop μ-loop) → Accepted (given c)
 fine c = accepted (given c) (c .pre)
 
+-- at most 64 samples
+few : (c : tie.Start Inv-loop μ-loop) → length (c .args .original .now) ≤ 64
+few c = omega (arith, fine c .lengths .square, square-64 {n = c .args .n} (size-bounds (c .args .n) (fine c .size) .1))
+
 -- there are at most 10,000 patterns
 room : (c : tie.Start Inv-loop μ-loop) {last : ℕ} → last ≡ cond (ltb 0 (length (c .args .texture .now))) (c .args .count) (c .args .count - 1) → last + 1 ≤ 10000
 room c e = omega (arith, e, last-le (ltb 0 (length (c .args .texture .now))) (c .args .count), fine c .lengths .few)
 
+below-layers-requires : tie.Need-below-layers-requires Inv-loop μ-loop
+below-layers-requires c κs = few (c .before .before .before .before .before)
+
+bit-planes-requires : tie.Need-bit-planes-requires Inv-loop μ-loop
+bit-planes-requires c κs = few (c .before .before .before .before .before .before)
+
+case-indices-requires : tie.Need-case-indices-requires Inv-loop μ-loop
+case-indices-requires c κs =
+    let k = fine (c .before .before .before .before .before .before .before) in
+    (k .size, k .lengths .bordered)
+
+-- what is worked out once
+prepared : (c : tie.After-case-indices Inv-loop μ-loop) →
+    let a = c .before .before .before .before .before .before .before .before .args in
+    Prepared (a .n) (a .border .now) (a .original .now) (a .table .now) (c .before .before .below-layers .result) (c .before .bit-planes .result) (c .case-indices .result)
+prepared c =
+    record {
+      layers = record { few = few (c .before .before .before .before .before .before .before .before); below-at = c .before .before .below-layers .ensures; plane-at = c .before .bit-planes .ensures };
+      index-at = c .case-indices .ensures;
+    }
+
 contour-or-none-requires : tie.Need-contour-or-none-requires Inv-loop μ-loop
-contour-or-none-requires c κs = let k = fine (c .before .before .before .before .before) in texture-judged _ _ (k .size) (k .lengths .optional)
+contour-or-none-requires c κs = let k = fine (c .before .before .before .before .before .before .before .before) in texture-judged _ _ (k .size) (k .lengths .optional)
 
 last-pattern-requires : tie.Need-last-pattern-requires Inv-loop μ-loop
 last-pattern-requires c κs = tt
 
 add-end : tie.Need-add-end Inv-loop μ-loop
-add-end c = omega (arith, room (c .before .before .before .before .before .before .before) (c .last-pattern .ensures))
+add-end c = omega (arith, room (c .before .before .before .before .before .before .before .before .before .before) (c .last-pattern .ensures))
 
 pattern-at-requires : tie.Need-pattern-at-requires Inv-loop μ-loop
-pattern-at-requires c κs = fine (c .before .before .before .before .before .before .before) .lengths .inside
+pattern-at-requires c κs = fine (c .before .before .before .before .before .before .before .before .before .before) .lengths .inside
 
 best-sides-requires : tie.Need-best-sides-requires Inv-loop μ-loop
 best-sides-requires c κs =
-    let s = c .before .before .before .before .before .before .before .before in
-    weighable (given s) (fine s) 0 _ (pattern-by (given s) 0 (c .pattern-at .ensures) (c .before .before .contour-or-none .ensures))
+    let a = c .before .before .before in
+    let s = a .before .before .before .before .before .before .before .before .before .before .before in
+    (weighable (given s) (fine s) 0 _ (pattern-by (given s) 0 (a .pattern-at .ensures) (a .before .before .contour-or-none .ensures)), prepared (a .before .before .before))
 
 loop-holds : tie.Need-loop-holds Inv-loop μ-loop
 loop-holds c =
-    let s = c .before .before .before .before .before .before .before .before .before in (
+    let a = c .before .before .before .before in
+    let s = a .before .before .before .before .before .before .before .before .before .before .before in (
       omega arith,
       omega arith,
-      room s (c .before .before .last-pattern .ensures),
-      sides-one (given s) (sides-at (given s) 0 (pattern-by (given s) 0 (c .before .pattern-at .ensures) (c .before .before .before .contour-or-none .ensures)) (c .best-sides .ensures)),
+      room s (a .before .last-pattern .ensures),
+      sides-one (given s) (sides-at (given s) 0 (pattern-by (given s) 0 (a .pattern-at .ensures) (a .before .before .contour-or-none .ensures)) (c .best-sides .ensures)),
     )
 
 pattern-at-requires-2 : tie.Need-pattern-at-requires-2 Inv-loop μ-loop
-pattern-at-requires-2 c κs = fine (c .before .before .before .before .before .before .before .before .before .before .before) .lengths .inside
+pattern-at-requires-2 c κs = let s = c .before .before .before .before .before .before .before .before .before .before .before .before .before .before .before .before .before in fine s .lengths .inside
 
 best-sides-requires-2 : tie.Need-best-sides-requires-2 Inv-loop μ-loop
 best-sides-requires-2 c κs =
-    let s = c .before .before .before .before .before .before .before .before .before .before .before .before in
-    let p = c .before .before .loop .p in
-    weighable (given s) (fine s) p _ (pattern-by (given s) p (c .pattern-at2 .ensures) (c .before .before .before .before .before .before .contour-or-none .ensures))
+    let b = c .before .before .before in
+    let l = b .before .before in
+    let a = l .before .before .before .before .before in
+    let s = a .before .before .before .before .before .before .before .before .before .before .before in
+    (weighable (given s) (fine s) (l .loop .p) _ (pattern-by (given s) (l .loop .p) (b .pattern-at2 .ensures) (a .before .before .contour-or-none .ensures)), prepared (a .before .before .before))
 
 add-p : tie.Need-add-p Inv-loop μ-loop
 add-p c = omega arith
@@ -76,9 +107,11 @@ loop-less c = search needs
 
 loop-again : tie.Need-loop-again Inv-loop μ-loop
 loop-again c =
-    let s = c .before .before .before .before .before .before .before .before .before .before .before .before .before .before .before .before in
-    let l = c .before .before .before .before .before .before .loop in
-    let next = sides-at (given s) (l .p) (pattern-by (given s) (l .p) (c .before .before .before .before .pattern-at2 .ensures) (c .before .before .before .before .before .before .before .before .before .before .contour-or-none .ensures)) (c .before .before .before .best-sides2 .ensures) in (
+    let b = c .before .before .before .before .before .before .before in
+    let l = b .before .before .loop in
+    let a = b .before .before .before .before .before .before .before in
+    let s = a .before .before .before .before .before .before .before .before .before .before .before in
+    let next = sides-at (given s) (l .p) (pattern-by (given s) (l .p) (b .pattern-at2 .ensures) (a .before .before .contour-or-none .ensures)) (c .before .before .before .best-sides2 .ensures) in (
       omega arith,
       omega arith,
       l .inv .2,
@@ -90,8 +123,9 @@ loop-again c =
 
 returns : tie.Need-returns Inv-loop μ-loop
 returns c =
-    let s = c .before .before .before .before .before .before .before .before .before .before .before in
-    let last = c .before .before .before .before .last-pattern in
+    let a = c .before .before .before .before .before .before in
+    let s = a .before .before .before .before .before .before .before .before .before .before .before in
+    let last = a .before .last-pattern in
     let e : c .before .loop .p ≡ last .result + 1 = omega arith in
     sides-all (given s) (c .before .loop .inv .3) (e ∙ ap (λ (k : ℕ). k + 1) (last .ensures))
 
@@ -101,6 +135,9 @@ best-pattern-spec =
     (tie.spec
     Inv-loop
     μ-loop
+    below-layers-requires
+    bit-planes-requires
+    case-indices-requires
     contour-or-none-requires
     last-pattern-requires
     add-end

@@ -7,7 +7,7 @@ use Rattle.arith.specs.Bits.{bits}
 use Rattle.wedgelet.specs.Wedgelet.{beside}
 use Rattle.arith.proofs.BitLaws.{bits-lt, bits-more}
 use Rattle.arith.proofs.SquareLaws.{column-lt, row-lt}
-use Rattle.pattern.proofs.SizeLaws.{square-64, with-bit-free}
+use Rattle.pattern.proofs.SizeLaws.{square-64}
 use Rattle.wedgelet.proofs.list.marks_beside.Statement.{statement}
 use Rattle.wedgelet.proofs.list.marks_beside.Tie as tie
 
@@ -35,8 +35,10 @@ is-beside-requires c κs =
     let n = c .before .before .args .n in
     omega (arith, column-lt n (c .before .loop .i) (c .loop-test .taken), row-lt n (c .before .loop .i) (c .loop-test .taken))
 
-with-bit-requires : tie.Need-with-bit-requires Inv-loop μ-loop
-with-bit-requires c κs = tt
+with-mark-requires : tie.Need-with-mark-requires Inv-loop μ-loop
+with-mark-requires c κs =
+    let e = c .before .before .loop .inv .2 in
+    (omega (arith, square-64 (c .before .before .before .pre .1)), rw e (bits-lt _ _))
 
 add-i : tie.Need-add-i Inv-loop μ-loop
 add-i c = omega (arith, square-64 (c .before .before .before .before .pre .1))
@@ -47,8 +49,7 @@ loop-less c = search needs
 loop-again : tie.Need-loop-again Inv-loop μ-loop
 loop-again c =
     let e = c .before .before .before .loop .inv .2 in
-    let l : c .before .before .before .loop .i < 64 = omega (arith, square-64 (c .before .before .before .before .pre .1)) in
-    (refl, omega arith, bits-more _ _ e (c .before .is-beside .ensures) (c .with-bit .ensures ∙ with-bit-free (c .before .before .before .loop .w) (c .before .before .before .loop .i) _ l (rw e (bits-lt _ _))))
+    (refl, omega arith, bits-more _ _ e (c .before .is-beside .ensures) (c .with-mark .ensures))
 
 returns : tie.Need-returns Inv-loop μ-loop
 returns c =
@@ -67,7 +68,7 @@ marks-beside-spec =
     rem-is-beside
     div-is-beside
     is-beside-requires
-    with-bit-requires
+    with-mark-requires
     add-i
     loop-less
     loop-again

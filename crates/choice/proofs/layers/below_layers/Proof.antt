@@ -1,0 +1,90 @@
+-- `below_layers` meets its contract: the layers up to v are there. Assumes nothing.
+use native.Mathlib.Omega.{arith}
+use borrow.Author.Needs.{needs}
+use Prim.Native.Nat.{_+_, _-_, _≤_}
+use mathlib.Core.Path.{_≡_, refl, _∙_}
+use lib.ListN.{length, replicate, length-set}
+use Rattle.side_cost.specs.Layers.{BelowLayers}
+use Rattle.side_cost.proofs.BuildLaws.{below-first, below-fits, below-more}
+use Rattle.choice.proofs.layers.below_layers.Statement.{statement}
+use Rattle.choice.proofs.layers.below_layers.Tie as tie
+
+abbrev Inv-loop : tie.InvT-loop
+Inv-loop samples equal layers₀ v₀ layers v = (v ≤ 256) × (length layers ≡ 257) × BelowLayers (v + 1) samples layers
+
+abbrev μ-loop : tie.MeasureT-loop
+μ-loop samples equal layers₀ v₀ layers v = 256 - v
+
+equal-layers-requires : tie.Need-equal-layers-requires Inv-loop μ-loop
+equal-layers-requires c κs = search needs
+
+loop-holds : tie.Need-loop-holds Inv-loop μ-loop
+loop-holds c = (omega arith, refl, below-first (c .before .before .args .samples .now) (c .before .before .pre) (replicate 257 0) refl)
+
+mul-layers : tie.Need-mul-layers Inv-loop μ-loop
+mul-layers c = search needs
+
+array-read-layers : tie.Need-array-read-layers Inv-loop μ-loop
+array-read-layers c = search needs
+
+mul-layers-2 : tie.Need-mul-layers-2 Inv-loop μ-loop
+mul-layers-2 c = search needs
+
+array-read-layers-2 : tie.Need-array-read-layers-2 Inv-loop μ-loop
+array-read-layers-2 c = search needs
+
+add-layers : tie.Need-add-layers Inv-loop μ-loop
+add-layers c =
+    let s = c .before .before .before .before in
+    let l = c .before .loop in
+    record { fits = below-fits (s .args .samples .now) (s .pre) (l .v) _ _ (l .layers) (l .inv .2) refl (c .before .before .equal-layers .ensures .1 (l .v) (omega arith)) }
+
+add-layers-2 : tie.Need-add-layers-2 Inv-loop μ-loop
+add-layers-2 c = search needs
+
+mul-layers-3 : tie.Need-mul-layers-3 Inv-loop μ-loop
+mul-layers-3 c = search needs
+
+array-write-layers : tie.Need-array-write-layers Inv-loop μ-loop
+array-write-layers c = search needs
+
+add-v : tie.Need-add-v Inv-loop μ-loop
+add-v c = search needs
+
+loop-less : tie.Need-loop-less Inv-loop μ-loop
+loop-less c = search needs
+
+loop-again : tie.Need-loop-again Inv-loop μ-loop
+loop-again c =
+    let s = c .before .before .before .before in
+    let l = c .before .loop in (
+      omega arith,
+      simp length-set (l .inv .1),
+      below-more (s .args .samples .now) (s .pre) (l .v) _ _ (l .layers) (l .inv .2) refl (c .before .before .equal-layers .ensures .1 (l .v) (omega arith)) (omega arith),
+    )
+
+returns : tie.Need-returns Inv-loop μ-loop
+returns c =
+    let l = c .before .loop in
+    λ v h. l .inv .2 v (omega arith)
+
+pub below-layers-spec : {M : Type 1} → statement M
+below-layers-spec =
+    tie.close
+    (tie.spec
+    Inv-loop
+    μ-loop
+    equal-layers-requires
+    loop-holds
+    mul-layers
+    array-read-layers
+    mul-layers-2
+    array-read-layers-2
+    add-layers
+    add-layers-2
+    mul-layers-3
+    array-write-layers
+    add-v
+    loop-less
+    loop-again
+    returns)

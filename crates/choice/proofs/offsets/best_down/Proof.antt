@@ -1,0 +1,116 @@
+-- `best_down` meets its contract: the turn, and the better of the two levels next to it. Assumes nothing.
+use native.Mathlib.Omega.{arith}
+use borrow.Author.Needs.{needs}
+use Prim.Native.Nat.{_+_}
+use mathlib.Core.Bool.{true}
+use mathlib.Core.Logic.{inl}
+use mathlib.Core.Path.{_≡_, refl, ap, _∙_}
+use lib.ListN.{length, getD}
+use Rattle.depth_table.proofs.TableLaws.{table-counts}
+use Rattle.side_cost.specs.Cost.{sideCost}
+use Rattle.side_cost.proofs.FindLaws.{better-by, better-small, down-adjacent}
+use Rattle.side_cost.proofs.TallyLaws.{count-le}
+use Rattle.choice.proofs.offsets.best_down.Statement.{statement}
+use Rattle.choice.proofs.offsets.best_down.Tie as tie
+
+add-turn : tie.Need-add-turn
+add-turn c =
+    let s = c .before .before .before in
+    let a = s .args in
+    omega (arith, s .pre .0 .its-size, s .pre .0 .layers .few, count-le (a .samples .now) (a .part .word) true (length (a .samples .now)) (λ x. true))
+
+turn-requires : tie.Need-turn-requires
+turn-requires c κs = let s = c .before .before .before in (omega arith, s .pre .2, s .pre .3, table-counts _ (s .pre .1) .1)
+
+add-next : tie.Need-add-next
+add-next c = search needs
+
+shared-slice-read-wide : tie.Need-shared-slice-read-wide
+shared-slice-read-wide c = search needs
+
+wide-requires : tie.Need-wide-requires
+wide-requires c κs = search needs
+
+shared-slice-read-wide-2 : tie.Need-shared-slice-read-wide-2
+shared-slice-read-wide-2 c = search needs
+
+wide-requires-2 : tie.Need-wide-requires-2
+wide-requires-2 c κs = search needs
+
+cost-at-requires : tie.Need-cost-at-requires
+cost-at-requires c κs = search needs
+
+sub-number-down : tie.Need-sub-number-down
+sub-number-down c = search needs
+
+number-down-requires : tie.Need-number-down-requires
+number-down-requires c κs =
+    let s = c .before .before .before .before .before .before .before .before .before in
+    omega (arith, s .pre .3, table-counts _ (s .pre .1) .1)
+
+add-if1 : tie.Need-add-if1
+add-if1 c = search needs
+
+returns : tie.Need-returns
+returns c =
+    let k = c .before in
+    let w2 = k .before .before in
+    let w1 = w2 .before .before in
+    let t = w1 .before .before in
+    let s = t .before .before .before .before in
+    let a = s .args in
+    let l = t .turn .result in
+    let far = k .before .cost-at .ensures .0 ∙ ap (sideCost (length (a .samples .now)) (a .samples .now) (a .part .word) true) (w2 .wide2 .ensures .0) in
+    let next : getD (a .table .now) (l + 1) 0 ≡ getD (a .table .now) l 0 + 1 = omega (arith, c .if1 .taken, w1 .wide .ensures .0, w2 .wide2 .ensures .0) in
+    let less = down-adjacent _ _ _ _ _ (s .pre .0) (a .table .now) (a .at) 0 (record { sound = s .pre .1; inside = s .pre .3; near = omega arith }) l (a .end) (s .pre .4) (t .turn .ensures) next in
+    (record { l = l; turned = t .turn .ensures; better = inl (less, k .number-down .ensures, far) }, k .before .cost-at .ensures .1)
+
+cost-at-requires-2 : tie.Need-cost-at-requires-2
+cost-at-requires-2 c κs = search needs
+
+sub-number-down-2 : tie.Need-sub-number-down-2
+sub-number-down-2 c = search needs
+
+number-down-requires-2 : tie.Need-number-down-requires-2
+number-down-requires-2 c κs =
+    let s = c .before .before .before .before .before .before .before .before .before .before .before .before in
+    omega (arith, s .pre .3, table-counts _ (s .pre .1) .1)
+
+better-requires : tie.Need-better-requires
+better-requires c κs = search needs
+
+returns-2 : tie.Need-returns-2
+returns-2 c =
+    let k = c .before .before .before .before in
+    let w2 = k .before .before in
+    let w1 = w2 .before .before in
+    let t = w1 .before .before in
+    let a = t .before .before .before .before .args in
+    let cost = sideCost (length (a .samples .now)) (a .samples .now) (a .part .word) true in
+    let far = k .before .cost-at .ensures .0 ∙ ap cost (w2 .wide2 .ensures .0) in
+    let near = c .before .before .cost-at2 .ensures .0 ∙ ap cost (w1 .wide .ensures .0) in (
+      record { l = t .turn .result; turned = t .turn .ensures; better = better-by near far (rw (c .before .number-down2 .ensures, k .number-down .ensures) at (c .better .ensures)) },
+      better-small (c .before .before .cost-at2 .ensures .1) (k .before .cost-at .ensures .1) (c .better .ensures),
+    )
+
+pub best-down-spec : {M : Type 1} → statement M
+best-down-spec =
+    tie.close
+    (tie.spec
+    add-turn
+    turn-requires
+    add-next
+    shared-slice-read-wide
+    wide-requires
+    shared-slice-read-wide-2
+    wide-requires-2
+    cost-at-requires
+    sub-number-down
+    number-down-requires
+    add-if1
+    returns
+    cost-at-requires-2
+    sub-number-down-2
+    number-down-requires-2
+    better-requires
+    returns-2)

@@ -1,0 +1,101 @@
+-- `best_up` meets its contract: the turn, and the better of the two levels next to it. Assumes nothing.
+use native.Mathlib.Omega.{arith}
+use borrow.Author.Needs.{needs}
+use Prim.Native.Nat.{_+_}
+use mathlib.Core.Bool.{true}
+use mathlib.Core.Logic.{inl}
+use mathlib.Core.Path.{_≡_, refl, ap, _∙_}
+use lib.ListN.{length, getD}
+use Rattle.depth_table.proofs.TableLaws.{table-counts}
+use Rattle.side_cost.specs.Cost.{sideCost}
+use Rattle.side_cost.proofs.FindLaws.{better-by, better-small, up-adjacent}
+use Rattle.choice.proofs.offsets.best_up.Statement.{statement}
+use Rattle.choice.proofs.offsets.best_up.Tie as tie
+
+turn-requires : tie.Need-turn-requires
+turn-requires c κs = let s = c .before .before in (omega arith, s .pre .2, s .pre .3, table-counts _ (s .pre .1) .1)
+
+add-next : tie.Need-add-next
+add-next c = search needs
+
+shared-slice-read-wide : tie.Need-shared-slice-read-wide
+shared-slice-read-wide c = search needs
+
+wide-requires : tie.Need-wide-requires
+wide-requires c κs = search needs
+
+shared-slice-read-wide-2 : tie.Need-shared-slice-read-wide-2
+shared-slice-read-wide-2 c = search needs
+
+wide-requires-2 : tie.Need-wide-requires-2
+wide-requires-2 c κs = search needs
+
+cost-at-requires : tie.Need-cost-at-requires
+cost-at-requires c κs = search needs
+
+sub-far-number : tie.Need-sub-far-number
+sub-far-number c = search needs
+
+mul-far-number : tie.Need-mul-far-number
+mul-far-number c = search needs
+
+add-if1 : tie.Need-add-if1
+add-if1 c = search needs
+
+returns : tie.Need-returns
+returns c =
+    let w2 = c .before .before in
+    let w1 = w2 .before .before in
+    let t = w1 .before .before in
+    let s = t .before .before .before in
+    let a = s .args in
+    let l = t .turn .result in
+    let far = c .before .cost-at .ensures .0 ∙ ap (sideCost (length (a .samples .now)) (a .samples .now) (a .part .word) true) (w2 .wide2 .ensures .0) in
+    let next : getD (a .table .now) (l + 1) 0 ≡ getD (a .table .now) l 0 + 1 = omega (arith, c .if1 .taken, w1 .wide .ensures .0, w2 .wide2 .ensures .0) in
+    let less = up-adjacent _ _ _ _ _ (s .pre .0) (a .table .now) (a .at) 0 (record { sound = s .pre .1; inside = omega arith; near = omega arith }) l (a .last) (s .pre .4) (t .turn .ensures) next in
+    (record { l = l; turned = t .turn .ensures; better = inl (less, refl, far) }, c .before .cost-at .ensures .1)
+
+cost-at-requires-2 : tie.Need-cost-at-requires-2
+cost-at-requires-2 c κs = search needs
+
+sub-near-number : tie.Need-sub-near-number
+sub-near-number c = search needs
+
+mul-near-number : tie.Need-mul-near-number
+mul-near-number c = search needs
+
+better-requires : tie.Need-better-requires
+better-requires c κs = search needs
+
+returns-2 : tie.Need-returns-2
+returns-2 c =
+    let one = c .before .before .before in
+    let w2 = one .before in
+    let w1 = w2 .before .before in
+    let t = w1 .before .before in
+    let a = t .before .before .before .args in
+    let cost = sideCost (length (a .samples .now)) (a .samples .now) (a .part .word) true in
+    let far = one .cost-at .ensures .0 ∙ ap cost (w2 .wide2 .ensures .0) in
+    let near = c .before .cost-at2 .ensures .0 ∙ ap cost (w1 .wide .ensures .0) in
+    (record { l = t .turn .result; turned = t .turn .ensures; better = better-by near far (c .better .ensures) }, better-small (c .before .cost-at2 .ensures .1) (one .cost-at .ensures .1) (c .better .ensures))
+
+pub best-up-spec : {M : Type 1} → statement M
+best-up-spec =
+    tie.close
+    (tie.spec
+    turn-requires
+    add-next
+    shared-slice-read-wide
+    wide-requires
+    shared-slice-read-wide-2
+    wide-requires-2
+    cost-at-requires
+    sub-far-number
+    mul-far-number
+    add-if1
+    returns
+    cost-at-requires-2
+    sub-near-number
+    mul-near-number
+    better-requires
+    returns-2)

@@ -1,0 +1,93 @@
+-- `turn` meets its contract: low falls or is the first, high does not fall or is the last. Assumes nothing.
+use native.Mathlib.Omega.{arith}
+use borrow.Author.Needs.{needs}
+use Prim.Native.Nat.{ℕ, _+_, _-_, _*_, _/_, _≤_, _<_}
+use mathlib.Core.Path.{_≡_, refl, sym, ap, _∙_}
+use mathlib.Core.Logic.{_⊎_, inl, inr}
+use mathlib.Core.List.{List}
+use lib.Bits.{bitAnd}
+use lib.Count.{ones}
+use lib.ListN.{getD}
+use Rattle.side_cost.specs.Turn.{Turn, twice}
+use Rattle.choice.proofs.offsets.turn.Statement.{statement}
+use Rattle.choice.proofs.offsets.turn.Tie as tie
+
+abbrev Inv-loop : tie.InvT-loop
+Inv-loop below word limit table plus from to low₀ high₀ low high = (from ≤ low) × (low < high) × (high ≤ to) × ((low ≡ from) ⊎ (twice below word table plus low < limit)) × ((high ≡ to) ⊎ (limit ≤ twice below word table plus high))
+
+abbrev μ-loop : tie.MeasureT-loop
+μ-loop below word limit table plus from to low₀ high₀ low high = high - low
+
+-- the count of the code is that of the definition
+twice-is :
+    (below : List ℕ) (word : ℕ) (table : List ℕ) (plus j : ℕ) {n v : ℕ} → n ≡ ones (bitAnd word (getD below (v + plus) 0)) → v ≡ getD table j 0
+    → 2 * n ≡ twice below word table plus j
+twice-is below word table plus j e q = ap (λ (x : ℕ). 2 * x) (e ∙ ap (λ (x : ℕ). ones (bitAnd word (getD below (x + plus) 0))) q)
+
+loop-holds : tie.Need-loop-holds Inv-loop μ-loop
+loop-holds c = (omega arith, omega arith, omega arith, inl refl, inl refl)
+
+add-loop : tie.Need-add-loop Inv-loop μ-loop
+add-loop c = search needs
+
+add-middle : tie.Need-add-middle Inv-loop μ-loop
+add-middle c = search needs
+
+shared-slice-read-wide : tie.Need-shared-slice-read-wide Inv-loop μ-loop
+shared-slice-read-wide c = search needs
+
+wide-requires : tie.Need-wide-requires Inv-loop μ-loop
+wide-requires c κs = tt
+
+add-count-below : tie.Need-add-count-below Inv-loop μ-loop
+add-count-below c = search needs
+
+count-below-requires : tie.Need-count-below-requires Inv-loop μ-loop
+count-below-requires c κs = search needs
+
+mul-if1 : tie.Need-mul-if1 Inv-loop μ-loop
+mul-if1 c = search needs
+
+loop-less : tie.Need-loop-less Inv-loop μ-loop
+loop-less c = search needs
+
+loop-again : tie.Need-loop-again Inv-loop μ-loop
+loop-again c =
+    let a = c .before .before .before .before .before .before .before .args in
+    let l = c .before .before .before .before .before .loop in
+    (omega arith, omega arith, omega arith, inr (omega (arith, twice-is (a .below .now) (a .word) (a .table .now) (a .plus) ((l .low + l .high) / 2) (c .before .count-below .ensures .0) (c .before .before .wide .ensures .0))), l .inv .4)
+
+loop-less-2 : tie.Need-loop-less-2 Inv-loop μ-loop
+loop-less-2 c = search needs
+
+loop-again-2 : tie.Need-loop-again-2 Inv-loop μ-loop
+loop-again-2 c =
+    let a = c .before .before .before .before .before .before .before .args in
+    let l = c .before .before .before .before .before .loop in
+    (omega arith, omega arith, omega arith, l .inv .3, inr (omega (arith, twice-is (a .below .now) (a .word) (a .table .now) (a .plus) ((l .low + l .high) / 2) (c .before .count-below .ensures .0) (c .before .before .wide .ensures .0))))
+
+returns : tie.Need-returns Inv-loop μ-loop
+returns c =
+    let l = c .before .loop in
+    let e : l .high ≡ l .low + 1 = omega arith in
+    record { low = l .inv .0; high = omega arith; falls = l .inv .3; stays = rw e at (l .inv .4) }
+
+pub turn-spec : {M : Type 1} → statement M
+turn-spec =
+    tie.close
+    (tie.spec
+    Inv-loop
+    μ-loop
+    loop-holds
+    add-loop
+    add-middle
+    shared-slice-read-wide
+    wide-requires
+    add-count-below
+    count-below-requires
+    mul-if1
+    loop-less
+    loop-again
+    loop-less-2
+    loop-again-2
+    returns)

@@ -1,0 +1,47 @@
+-- `file_calls_choose` meets its contract, case by case of what `choose` answered. Assumes nothing.
+use mathlib.Core.Path.{sym, ap, _∙_}
+use mir.Syntax.{w32}
+use mir.ValLaws.{toZ-ofZ}
+use Rattle.arith.specs.Checks.{refused}
+use Rattle.choice.specs.Answer.{chooseTold}
+use Rattle.file_calls.specs.Structs.{chosenOf}
+use borrow.Author.Needs.{needs}
+use Rattle.file_calls.proofs.file_calls_choose.Statement.{statement}
+use Rattle.file_calls.proofs.file_calls_choose.Tie as tie
+
+choose-requires : tie.Need-choose-requires
+choose-requires c κs = search needs
+
+enum-known-answer : tie.Need-enum-known-answer
+enum-known-answer c = search needs
+
+enum-known-answer-2 : tie.Need-enum-known-answer-2
+enum-known-answer-2 c = search needs
+
+wide-requires : tie.Need-wide-requires
+wide-requires c κs = search needs
+
+returns : tie.Need-returns
+returns c =
+    let told = c .before .before in
+    let b = told .answer .given .0 .0 in
+    let e = toZ-ofZ w32 (b .off0) (search needs) in
+    let f = toZ-ofZ w32 (b .off1) (search needs) in
+    cc (e, f, ap (λ a. chosenOf (chooseTold a)) (told .answer .given .1), ap chosenOf (told .before .before .choose .ensures .0))
+
+returns-2 : tie.Need-returns-2
+returns-2 c =
+    let told = c .before .before in
+    ap (λ x. chosenOf (refused x)) (c .wide .ensures)
+    ∙ ap chosenOf (sym (ap chooseTold (told .answer2 .given .1)) ∙ told .before .before .choose .ensures .0)
+
+pub file-calls-choose-spec : {M : Type 1} → statement M
+file-calls-choose-spec =
+    tie.close
+    (tie.spec
+    choose-requires
+    enum-known-answer
+    enum-known-answer-2
+    wide-requires
+    returns
+    returns-2)
