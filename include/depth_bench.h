@@ -9,7 +9,7 @@
  *   `refusal` (0: none) and 0 in all other fields, and alters nothing. The numbers stand at each call in the order of the checks.
  * - The calls keep no state and allocate nothing. They may be called from several threads at once, as long as no other thread uses a slice
  *   that is written.
- * - A call needs fewer than DEPTH_BENCH_STACK_.. bytes of stack, as measured over many inputs (outside/c/stack.c) and rounded up.
+ * - A call needs at most DEPTH_BENCH_STACK_.. bytes of stack, as measured over many inputs (outside/c/stack.c) and rounded up.
  *
  * Link with libdepth_bench.a (x86-64). These are plain declarations: a function pointer or a test double takes any of the three names.
  */

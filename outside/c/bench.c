@@ -1,5 +1,5 @@
-/* Times the bench beside plain C, and beside its own method in C, in one run and prints the ratios. All see the same blocks, and their
-   answers are compared. */
+/* Times the bench beside plain C, and beside its own method in C, in one run and prints the ratios. Answers are compared on every block that
+   two of them see. */
 #include <stdio.h>
 #include <stdlib.h>
 #include <time.h>
@@ -25,7 +25,7 @@ depth_bench_choice file_calls_choose(size_t n, const uint64_t *list, size_t list
     size_t border_len, const uint8_t *original, size_t original_len, const uint8_t *table, size_t table_len, uint32_t reach,
     const uint8_t *texture, size_t texture_len);
 
-enum { BLOCKS = 64, LIST = 756, BENCH = 0, PLAIN2 = 1, PLAIN3 = 2, SAME = 3 };
+enum { BLOCKS = 64, PLAIN_BLOCKS = 2, LIST = 756, BENCH = 0, PLAIN2 = 1, PLAIN3 = 2, SAME = 3 };
 static slice borders[BLOCKS], originals[BLOCKS], textures[BLOCKS], table;
 static uint64_t list[LIST];
 static size_t count;
@@ -65,9 +65,10 @@ static depth_bench_choice choose_with(int who, int built, size_t n, uint32_t rea
     }
 }
 
-/* Whether all answer the same for the first blocks. */
+/* Whether all answer the same: the plain loops for the blocks that they are timed on, the others for all. */
 static int agree(size_t n, uint32_t reach) {
-    for (int i = 0; i < 2; i++) for (int who = BENCH; who <= SAME; who++) for (int built = 0; built < 2; built++) {
+    for (int i = 0; i < BLOCKS; i++) for (int who = BENCH; who <= SAME; who++) for (int built = 0; built < 2; built++) {
+        if (i >= PLAIN_BLOCKS && (who == PLAIN2 || who == PLAIN3)) continue;
         depth_bench_choice a = choose_with(BENCH, 0, n, reach, i), b = choose_with(who, built, n, reach, i);
         if (a.refusal != 0 || b.refusal != 0 || a.kind != b.kind || a.entry != b.entry) return 0;
         if (a.off0 != b.off0 || a.off1 != b.off1 || a.cost != b.cost) return 0;
@@ -76,13 +77,13 @@ static int agree(size_t n, uint32_t reach) {
 }
 
 /* Seconds for one choice by each: the mean over the blocks of the least of several rounds. The plain loops take two blocks, the others all
-   in turn, so that no branch is learnt by heart. */
+   in turn, so that branch prediction does not learn one block. */
 static void choice_times(int built, size_t n, uint32_t reach, double mean[4]) {
     static double least[4][BLOCKS];
     for (int who = BENCH; who <= SAME; who++) for (int i = 0; i < BLOCKS; i++) least[who][i] = 1e9;
     for (int r = 0; r < 12; r++) for (int who = BENCH; who <= SAME; who++) {
         int plain = who == PLAIN2 || who == PLAIN3;
-        for (int i = 0; i < (plain ? r < 3 ? 2 : 0 : BLOCKS); i++) {
+        for (int i = 0; i < (plain ? r < 6 ? PLAIN_BLOCKS : 0 : BLOCKS); i++) {
             double start = now();
             check += choose_with(who, built, n, reach, i).cost;
             double spent = now() - start;
@@ -90,7 +91,7 @@ static void choice_times(int built, size_t n, uint32_t reach, double mean[4]) {
         }
     }
     for (int who = BENCH; who <= SAME; who++) {
-        int blocks = who == PLAIN2 || who == PLAIN3 ? 2 : BLOCKS;
+        int blocks = who == PLAIN2 || who == PLAIN3 ? PLAIN_BLOCKS : BLOCKS;
         mean[who] = 0;
         for (int i = 0; i < blocks; i++) mean[who] += least[who][i] / blocks;
     }

@@ -245,7 +245,7 @@ static int choose_once(void) {
     return choose_differs(&c);
 }
 
-/* NULL with length 0 for each slice of each call in turn, and for every number of them together; n allowed and not. */
+/* NULL with length 0 for each slice of each call in turn, and for every set of them together; n allowed and not. */
 static int null_in_turn(void) {
     static const size_t sizes[] = { 4, 8, 5 };
     part = "NULL";

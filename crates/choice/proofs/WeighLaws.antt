@@ -1,4 +1,5 @@
--- What follows for a pattern that is weighed: the index of each partition's depth, and the best offset from the costs by value. Assumes nothing.
+-- What follows for a pattern that is weighed: the index of each partition's depth, and its best offset from that of its
+-- samples as a word. Assumes nothing.
 use Prim.Native.Nat.{ℕ, _-_, _*_, _^_, _≤_, _<_}
 use mathlib.Core.Path.{_≡_, sym, ap, _∙_}
 use mathlib.Core.Bool.{Bool, true, cond}
@@ -9,7 +10,6 @@ use Rattle.arith.specs.Distance.{clamped}
 use Rattle.depth_table.specs.Table.{indexOf}
 use Rattle.depth_table.proofs.TableLaws.{table-counts}
 use Rattle.depth_table.proofs.IndexLaws.{index-below}
-use Rattle.pattern.proofs.SizeLaws.{square-64}
 use Rattle.sides.specs.Sides.{sideDepth}
 use Rattle.sides.proofs.CallLaws.{sides-accepted}
 use Rattle.offset.specs.Offset.{levelOf}
@@ -26,10 +26,6 @@ use Rattle.choice.specs.Picked.{blockCase, Weighable, Prepared}
 use Rattle.choice.proofs.CaseLaws.{depth-case}
 
 module _ (n w : ℕ) (s o t : List ℕ) (R : ℕ) (h : Weighable n w s o t R) where
-  -- at most 64 samples
-  pub few-samples : length o ≤ 64
-  few-samples = omega (arith, h .square, square-64 (sides-accepted n w s (h .sides) .high))
-
   module _ (below planes indices : List ℕ) (q : Prepared n s o t below planes indices) (bytes : (k : ℕ) → getD o k 0 < 256) where
     -- the word marks samples of the block only
     word-small : w < 2 ^ length o

@@ -22,10 +22,11 @@ pub record Weighable (n w : ℕ) (neighbours original table : List ℕ) (reach :
   pub sound : tableOk table ≡ true
   pub near : reach ≤ 255
 
--- what is worked out once for a block: the layers of its samples, and the index of the depth in each of the eight cases
+-- the index of the depth in each of the first m cases
 abbrev pub CaseIndices : ℕ → ℕ → List ℕ → List ℕ → List ℕ → Type 0
 CaseIndices m n neighbours table indices = (k : ℕ) → k < m → getD indices k 0 ≡ indexOf table (depthIn n neighbours k)
 
+-- what is worked out once for a block: the layers of its samples, and the index of the depth in each of the eight cases
 pub record Prepared (n : ℕ) (neighbours original table below planes indices : List ℕ) : Type 0 where
   pub layers : Layered original below planes
   pub index-at : CaseIndices 8 n neighbours table indices

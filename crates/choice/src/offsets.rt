@@ -2,7 +2,7 @@
 ghost use mathlib.Core.Path.{_≡_};
 ghost use mathlib.Core.Bool.{true};
 ghost use Prim.Native.Nat.{_+_, _-_, _*_, _<_, _≤_, _^_};
-ghost use lib.ListN.{length, getD};
+ghost use lib.ListN.{length};
 ghost use Rattle.depth_table.specs.Table.{tableOk};
 ghost use Rattle.side_cost.specs.Layers.{Layered, Parted};
 ghost use Rattle.side_cost.specs.Trial.{Better, TrialOf};
@@ -30,7 +30,8 @@ fn better(best: Trial, number: usize, cost: u32) -> Trial
     best
 }
 
-// Of the indices from low to high the last one, or low, of whose value (plus 0 or 1) less than half of the limit is below; never high.
+// Of the indices `from` to `to` - 1 the last one at whose value, plus 0 or 1, twice the samples of the word below it stay under the limit,
+// or `from` where there is none.
 fn turn(
     below: &[u64; 257],
     word: u64,

@@ -23,12 +23,12 @@ choiceStruct (given (r, cost)) =
     record { refusal = 0; kind = r .kind; entry = r .entry; off0 = r .off0; off1 = r .off1; cost = cost }
 
 -- the record in a choice
-abbrev pub recordIn : Choice → Record
-recordIn r = record { kind = r .kind; entry = r .entry; off0 = r .off0; off1 = r .off1 }
+abbrev pub chosenRecord : Choice → Record
+chosenRecord r = record { kind = r .kind; entry = r .entry; off0 = r .off0; off1 = r .off1 }
 
 -- a choice that is not refused is the record of least cost, first in the order between equals, and the cost is its own
 abbrev pub LeastChoice : Case → Choice → Type 0
-LeastChoice C r = r .refusal ≡ 0 → LeastRecord C (recordIn r) (r .cost)
+LeastChoice C r = r .refusal ≡ 0 → LeastRecord C (chosenRecord r) (r .cost)
 
 -- a pattern of at most 64 samples: word 0 has its marks
 abbrev pub patternStruct : Answer ℕ → Pattern

@@ -30,8 +30,9 @@ worked-cases =
       hold = refl;
       accepted = refl;
       which = refl;
-      differ = refl;
+      unequal = refl;
       chosen-are = refl;
+      chosen-transposed = refl;
       partner =
           record {
             within = record { pattern-in = inl (refl, omega arith); off0-in = omega arith; off1-in = omega arith };

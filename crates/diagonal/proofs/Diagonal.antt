@@ -23,7 +23,7 @@ use Rattle.choice.proofs.LeastLaws.{chosen-least, one-least}
 use Rattle.depth_bench.specs.Structs.{choiceStruct}
 use Rattle.depth_bench.proofs.Built.{list-as-built, least-told}
 use Rattle.depth_bench.proofs.PatternLaws.{pattern-answers}
-use Rattle.diagonal.specs.Law.{transposedTexture, transposedCase, AnswersLeast, OnePartner, OneCost, covered, caseForC, chosenForC, transposedForC, LawForC, DiagonalLaw}
+use Rattle.diagonal.specs.Law.{transposedCase, AnswersLeast, OnePartner, OneCost, covered, caseForC, chosenForC, LawForC, DiagonalLaw}
 use Rattle.diagonal.proofs.RecordLaws.{contour-answers, predict-writes}
 use Rattle.diagonal.proofs.TransposedLaws.{case-twice, refusal-transposed}
 use Rattle.diagonal.proofs.PartnerLaws.{one-partner}

@@ -22,7 +22,7 @@ use Rattle.choice_checks.specs.Case.{Case}
 use Rattle.choice.specs.Record.{Record, PatternIn, Within, patternBy, patternOf, predictionOf, difference, costOf}
 use Rattle.choice_checks.proofs.AcceptLaws.{Accepted}
 use Rattle.choice.proofs.LeastLaws.{same-record}
-use Rattle.diagonal.specs.Law.{transposedCase, Partner, Alike, OnePartner}
+use Rattle.diagonal.specs.Law.{transposedCase, Partner, OnePartner}
 use Rattle.diagonal.proofs.TransposedLaws.{texture-length, texture-lent}
 
 -- ---- what a transposed prediction costs

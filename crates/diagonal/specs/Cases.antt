@@ -71,8 +71,9 @@ pub record WorkedCases : Type 0 where
   pub accepted : map chooseRefusal cases ≡ 0 ∷ 0 ∷ 0 ∷ 0 ∷ []
   pub which : map covered cases ≡ true ∷ true ∷ false ∷ false ∷ []
   -- the costs of the other two differ: neither premise can be dropped
-  pub differ : map costs (tied ∷ single ∷ []) ≡ (73, 97) ∷ (557, 221) ∷ []
+  pub unequal : map costs (tied ∷ single ∷ []) ≡ (73, 97) ∷ (557, 221) ∷ []
   -- entry 24, 0xEC88, and its partner for the transposed block, entry 33, 0xFC80, are the chosen ones of the first case
   pub chosen-are : chosen edged ≡ (entry 24, 97)
+  pub chosen-transposed : chosen (transposedCase edged) ≡ (entry 33, 97)
   pub partner : Partner edged (entry 24) (entry 33)
   pub alike : Alike edged (entry 24) (entry 33)

@@ -20,7 +20,7 @@ use Rattle.choice.specs.Record.{Record, Within, patternOf, predictionOf, costOf
 use Rattle.choice.specs.Answer.{chooseAnswer}
 use Rattle.depth_bench.specs.declared.Choice.{Choice}
 use Rattle.depth_bench.specs.Built.{builtCase, patternAnswer}
-use Rattle.depth_bench.specs.Structs.{choiceStruct, recordIn}
+use Rattle.depth_bench.specs.Structs.{choiceStruct, chosenRecord}
 
 -- ---- the least cost
 
@@ -97,7 +97,7 @@ module _ (n : ℕ) (neighbours original table : List ℕ) (reach : ℕ) (texture
     -- its case has the list as built
     pub as-built : asBuilt n (caseForC .list) (caseForC .count) ≡ true
     -- it answers the record of least cost
-    pub least : LeastRecord caseForC (recordIn chosenForC) (chosenForC .cost)
+    pub least : LeastRecord caseForC (chosenRecord chosenForC) (chosenForC .cost)
     -- what `depth_bench_pattern_of` answers for a record within the reach is its pattern
     pub patterns : (r : Record) → Within caseForC r → patternAnswer n (r .kind) (r .entry) texture ≡ given (patternOf caseForC r)
     -- the choice for the transposed block is not refused
@@ -108,8 +108,8 @@ module _ (n : ℕ) (neighbours original table : List ℕ) (reach : ℕ) (texture
 
 -- ---- the law
 
--- Demand 3. Every case that a choice accepts has its one record of least cost, whatever its list and its neighbours; the rest is said of the
--- cases that are covered.
+-- Demand 3. Every case that a choice accepts has its one record of least cost, whatever its list and its neighbours; the rest is said of
+-- the cases that are covered.
 pub record DiagonalLaw : Type 0 where
   -- what `wedgelets` leaves in a lent list, with the count that it answers, is the list as built
   pub built : (n : ℕ) (old : List ℕ) (count : ℕ) → listAnswer n old ≡ given count → asBuilt n (listAfter n old) count ≡ true

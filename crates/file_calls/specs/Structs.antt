@@ -1,4 +1,4 @@
--- The structs that the calls return: what `read` answered, field by field, what `write` answered, and what `choose` answered. Assumes nothing.
+-- The structs that the calls return: what `read`, field by field, `write` and `choose` answered. Assumes nothing.
 use Prim.Native.Nat.{ℕ}
 use lib.IntN.{pos}
 use Rattle.arith.specs.Checks.{Answer, refused, given}

@@ -1,5 +1,5 @@
-// Calls for the outside tests and the benchmarks, which link libfile_calls.a: those of the record file, and the choice with the list lent. They
-// are not part of include/depth_bench.h.
+// Calls for the outside tests and the benchmarks, which link libfile_calls.a: those of the record file, and the choice with the list lent.
+// They are not part of include/depth_bench.h.
 ghost use mathlib.Core.Path.{_≡_};
 ghost use lib.ListN.{length};
 ghost use Rattle.choice_checks.specs.Case.{caseOf};

@@ -33,6 +33,7 @@ sampleLent =
       records = (replicate 2 0, (replicate 2 0, (replicate 2 (pos 0), replicate 2 (pos 0))));
     }
 
+-- a record of entry 0, by its offsets
 abbrev fieldsOf : ℤ → ℤ → RecordFields
 fieldsOf off0 off1 = record { kind = 0; entry = 0; off0 = off0; off1 = off1 }
 

@@ -1,7 +1,7 @@
 -- How the layers of a block are built: samples by value, then those below each value; and sums bit by bit. Assumes nothing.
 use Prim.Native.Nat.{ℕ, zero, suc, _+_, _-_, _*_, _^_, _≤_, _<_, zero-le}
 use mathlib.Core.Path.{_≡_, refl, sym, ap, ap₂, _∙_}
-use mathlib.Core.Bool.{Bool, true, false}
+use mathlib.Core.Bool.{true}
 use mathlib.Core.List.{List}
 use native.Mathlib.Decide.{ℕ-discrete}
 use native.Mathlib.Nat.{add-mul, mul-le-mul, lt-of-lt-of-le}
@@ -13,7 +13,7 @@ use lib.ListN.{length, getD, set, replicate, length-set, getD-replicate}
 use lib.Pow.{pow-mono}
 use lib.Seq.{getD-set-same, getD-set-other}
 use borrow.Author.Tests.{eq-eqb, ne-eqb, le-ltb}
-use Rattle.arith.specs.Bits.{bit, bits, testBit}
+use Rattle.arith.specs.Bits.{bit, bits}
 use Rattle.arith.proofs.BitLaws.{bits-lt, bits-ext, bits-more, bits-none}
 use Rattle.arith.proofs.ListLaws.{stored}
 use Rattle.pattern.specs.Pattern.{withBit}

@@ -28,11 +28,13 @@ use Rattle.side_cost.proofs.TallyLaws.{cost-step, below-step}
 use Rattle.side_cost.proofs.TurnLaws.{up-next, up-last, down-next, down-last, best-here, number-up, number-down}
 
 -- what a partition costs is convex in the value
-pub side-convex : (c : ℕ) (samples : List ℕ) (w : ℕ) → Convex (sideCost c samples w true) (sideBelow c samples w true) (sideSize c samples w true)
-side-convex c samples w =
+pub side-convex :
+    (c : ℕ) (samples : List ℕ) (w : ℕ) (m : Bool)
+    → Convex (sideCost c samples w m) (sideBelow c samples w m) (sideSize c samples w m)
+side-convex c samples w m =
     record {
-      step = λ v. rw add-one at (cost-step c samples w true v);
-      more = λ v. let e = rw add-one at (below-step c samples w true v) in omega arith;
+      step = λ v. rw add-one at (cost-step c samples w m v);
+      more = λ v. let e = rw add-one at (below-step c samples w m v) in omega arith;
     }
 
 -- the count on the words, as the code makes it
@@ -109,7 +111,7 @@ module _ (samples below planes : List ℕ) (word size : ℕ) (q : Parted samples
   hi = min (i + R) (count - 1)
 
   convex : Convex (sideCost c samples word true) under size
-  convex = rw (q .its-size) (side-convex c samples word)
+  convex = rw (q .its-size) (side-convex c samples word true)
 
   rising : (j k : ℕ) → j < k → k < count → T j < T k
   rising = table-rises table (f .sound)

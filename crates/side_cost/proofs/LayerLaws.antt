@@ -3,12 +3,12 @@ use Prim.Native.Nat.{ℕ, zero, suc, _+_, _-_, _*_, _/_, _%_, _^_, _≤_, _<_, m
 use mathlib.Core.Path.{_≡_, refl, sym, ap, ap₂, _∙_}
 use mathlib.Core.Bool.{Bool, true, false, cond, not, _&&_}
 use mathlib.Core.List.{List}
-use native.Mathlib.Nat.{mul-add, mul-zero, mod-lt, div-one, div-eq-of-lt, lt-of-le-of-lt, lt-of-lt-of-le, div-le-self}
+use native.Mathlib.Nat.{mul-add, mul-zero, div-one, div-eq-of-lt, lt-of-le-of-lt, div-le-self}
 use native.Mathlib.Omega.{arith}
 use lib.Bits.{bitAnd, bitXor, differ, and-shr, and-step, and-le-l, xor-shr, xor-step, xor-lt}
 use lib.Count.{ones}
 use lib.Dec.{eqb, ltb}
-use lib.ListN.{length, getD}
+use lib.ListN.{getD}
 use lib.Pow.{shr-shr}
 use borrow.Author.Tests.{ltb-true, ltb-false}
 use Rattle.arith.specs.Bits.{bit, bits, testBit}

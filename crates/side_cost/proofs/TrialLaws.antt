@@ -2,7 +2,7 @@
 use Prim.Native.Nat.{ℕ, suc, _≤_, _<_}
 use mathlib.Core.Path.{_≡_, sym, subst, _∙_}
 use native.Mathlib.Omega.{arith}
-use Rattle.arith.specs.Least.{First, leastTo}
+use Rattle.arith.specs.Least.{First}
 use Rattle.arith.proofs.LeastLaws.{leastTo-first, first-leastTo, first-same}
 use Rattle.side_cost.specs.Trial.{TrialOf}
 

@@ -1,14 +1,13 @@
 -- A cost that changes from one value to the next by twice the samples below less all of them falls and then rises, and so it does along a
 -- rising table: the level that is best is next to the turn, and it is the first least in the order of offsets. Assumes nothing.
 use Prim.Native.Nat.{ℕ, zero, suc, _+_, _-_, _*_, _≤_, _<_, min}
-use mathlib.Core.Path.{_≡_, refl, sym, ap, subst, _∙_}
+use mathlib.Core.Path.{_≡_, sym, ap, _∙_}
 use mathlib.Core.Logic.{_⊎_, inl, inr, ⊎-elim}
 use native.Mathlib.Decide.{decLe}
 use native.Mathlib.Nat.{eq-or-lt-of-le}
 use native.Mathlib.Omega.{arith}
 use lib.IntN.{ℤ, pos, negsuc}
 use Rattle.arith.specs.Distance.{clamped}
-use Rattle.arith.specs.Least.{First, leastTo}
 use Rattle.arith.proofs.LeastLaws.{last-or-below, first-leastTo}
 use Rattle.side_cost.specs.Offset.{trial, offset}
 use Rattle.side_cost.specs.Trial.{TrialOf}

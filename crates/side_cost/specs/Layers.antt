@@ -7,7 +7,6 @@ use lib.Dec.{eqb, ltb}
 use lib.ListN.{length, getD}
 use Rattle.arith.specs.Bits.{bits, testBit}
 use Rattle.arith.specs.Sum.{sumTo}
-use Rattle.side_cost.specs.Cost.{sideCost}
 use Rattle.side_cost.specs.Tally.{sideSize}
 
 -- of the first c samples: those with the value v, those below v, and those whose bit b is set
@@ -20,7 +19,7 @@ belowWord c samples v = bits (λ k. ltb (getD samples k 0) v) c
 abbrev pub planeWord : ℕ → List ℕ → ℕ → ℕ
 planeWord c samples b = bits (λ k. testBit (getD samples k 0) b) c
 
--- lists of them
+-- lists of them; of the bit planes the highest bit comes first
 abbrev pub EqualLayers : ℕ → List ℕ → List ℕ → Type 0
 EqualLayers c samples l = (length l ≡ 256) × ((v : ℕ) → v < 256 → getD l v 0 ≡ equalWord c samples v)
 

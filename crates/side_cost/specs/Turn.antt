@@ -1,4 +1,4 @@
--- A partition's cost is convex in the depth value: where it turns along the table, and its cost by the number of an offset. Assumes nothing.
+-- A partition's cost is convex in the depth value: where it turns along the table, and its cost by an offset's number. Assumes nothing.
 use Prim.Native.Nat.{ℕ, suc, _+_, _-_, _*_, _≤_, _<_}
 use mathlib.Core.Path.{_≡_}
 use mathlib.Core.Bool.{Bool, true}

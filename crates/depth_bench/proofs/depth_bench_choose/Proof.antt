@@ -1,5 +1,5 @@
 -- `depth_bench_choose` meets its contract: the list is built for n, and the refusals do not depend on it. Assumes nothing.
-use mathlib.Core.Path.{_≡_, sym, ap, _∙_}
+use mathlib.Core.Path.{sym, ap, _∙_}
 use Rattle.wedgelet.specs.Told.{listTold}
 use Rattle.choice.specs.Answer.{chooseAnswer}
 use Rattle.depth_bench.specs.Structs.{choiceStruct}

@@ -1,9 +1,6 @@
 -- `case_depth` meets its contract: the depths of the case's pattern are not refused. Assumes nothing.
 use native.Mathlib.Omega.{arith}
-use borrow.Author.Needs.{needs}
-use mathlib.Core.Path.{_∙_}
 use Rattle.pattern.proofs.SizeLaws.{size-bounds}
-use Rattle.choice.specs.Cases.{depthIn}
 use Rattle.choice.proofs.CaseLaws.{depth-by}
 use Rattle.choice.proofs.cases.case_depth.Statement.{statement}
 use Rattle.choice.proofs.cases.case_depth.Tie as tie

@@ -2,7 +2,7 @@
 use native.Mathlib.Omega.{arith}
 use borrow.Author.Needs.{needs}
 use Prim.Native.Nat.{_+_, _-_, _≤_}
-use mathlib.Core.Path.{_≡_, refl, _∙_}
+use mathlib.Core.Path.{_≡_, refl}
 use lib.ListN.{length, replicate, length-set}
 use Rattle.side_cost.specs.Layers.{BelowLayers}
 use Rattle.side_cost.proofs.BuildLaws.{below-first, below-fits, below-more}

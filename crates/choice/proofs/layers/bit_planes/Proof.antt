@@ -2,7 +2,7 @@
 use native.Mathlib.Omega.{arith}
 use borrow.Author.Needs.{needs}
 use Prim.Native.Nat.{_-_, _≤_}
-use mathlib.Core.Path.{_≡_, refl, _∙_}
+use mathlib.Core.Path.{_≡_}
 use lib.ListN.{length, length-set}
 use Rattle.arith.proofs.ListLaws.{stored}
 use Rattle.side_cost.specs.Layers.{planeWord, BitPlanes}

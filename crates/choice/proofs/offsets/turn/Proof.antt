@@ -1,14 +1,11 @@
 -- `turn` meets its contract: low falls or is the first, high does not fall or is the last. Assumes nothing.
 use native.Mathlib.Omega.{arith}
 use borrow.Author.Needs.{needs}
-use Prim.Native.Nat.{ℕ, _+_, _-_, _*_, _/_, _≤_, _<_}
-use mathlib.Core.Path.{_≡_, refl, sym, ap, _∙_}
+use Prim.Native.Nat.{ℕ, _+_, _-_, _/_, _≤_, _<_}
+use mathlib.Core.Path.{_≡_, refl, ap}
 use mathlib.Core.Logic.{_⊎_, inl, inr}
-use mathlib.Core.List.{List}
-use lib.Bits.{bitAnd}
-use lib.Count.{ones}
-use lib.ListN.{getD}
-use Rattle.side_cost.specs.Turn.{Turn, twice}
+use Rattle.side_cost.specs.Turn.{twice}
+use Rattle.side_cost.proofs.FindLaws.{twice-by}
 use Rattle.choice.proofs.offsets.turn.Statement.{statement}
 use Rattle.choice.proofs.offsets.turn.Tie as tie
 
@@ -17,12 +14,6 @@ Inv-loop below word limit table plus from to low₀ high₀ low high = (from ≤
 
 abbrev μ-loop : tie.MeasureT-loop
 μ-loop below word limit table plus from to low₀ high₀ low high = high - low
-
--- the count of the code is that of the definition
-twice-is :
-    (below : List ℕ) (word : ℕ) (table : List ℕ) (plus j : ℕ) {n v : ℕ} → n ≡ ones (bitAnd word (getD below (v + plus) 0)) → v ≡ getD table j 0
-    → 2 * n ≡ twice below word table plus j
-twice-is below word table plus j e q = ap (λ (x : ℕ). 2 * x) (e ∙ ap (λ (x : ℕ). ones (bitAnd word (getD below (x + plus) 0))) q)
 
 loop-holds : tie.Need-loop-holds Inv-loop μ-loop
 loop-holds c = (omega arith, omega arith, omega arith, inl refl, inl refl)
@@ -55,7 +46,7 @@ loop-again : tie.Need-loop-again Inv-loop μ-loop
 loop-again c =
     let a = c .before .before .before .before .before .before .before .args in
     let l = c .before .before .before .before .before .loop in
-    (omega arith, omega arith, omega arith, inr (omega (arith, twice-is (a .below .now) (a .word) (a .table .now) (a .plus) ((l .low + l .high) / 2) (c .before .count-below .ensures .0) (c .before .before .wide .ensures .0))), l .inv .4)
+    (omega arith, omega arith, omega arith, inr (omega (arith, twice-by (a .below .now) (a .word) (a .table .now) (a .plus) ((l .low + l .high) / 2) (c .before .count-below .ensures .0) (ap (λ (x : ℕ). x + a .plus) (c .before .before .wide .ensures .0)))), l .inv .4)
 
 loop-less-2 : tie.Need-loop-less-2 Inv-loop μ-loop
 loop-less-2 c = search needs
@@ -64,7 +55,7 @@ loop-again-2 : tie.Need-loop-again-2 Inv-loop μ-loop
 loop-again-2 c =
     let a = c .before .before .before .before .before .before .before .args in
     let l = c .before .before .before .before .before .loop in
-    (omega arith, omega arith, omega arith, l .inv .3, inr (omega (arith, twice-is (a .below .now) (a .word) (a .table .now) (a .plus) ((l .low + l .high) / 2) (c .before .count-below .ensures .0) (c .before .before .wide .ensures .0))))
+    (omega arith, omega arith, omega arith, l .inv .3, inr (omega (arith, twice-by (a .below .now) (a .word) (a .table .now) (a .plus) ((l .low + l .high) / 2) (c .before .count-below .ensures .0) (ap (λ (x : ℕ). x + a .plus) (c .before .before .wide .ensures .0)))))
 
 returns : tie.Need-returns Inv-loop μ-loop
 returns c =

@@ -1,5 +1,4 @@
 -- `common` meets its contract: a word has at most 64 ones. Assumes nothing.
-use native.Mathlib.Omega.{arith}
 use borrow.Author.Needs.{needs}
 use lib.Count.{ones-le}
 use mathlib.Core.Path.{refl}

@@ -1,7 +1,7 @@
 -- `flipped_sum` meets its contract: after b bits the sum is that of the samples without their lowest 8 - b bits. Assumes nothing.
 use native.Mathlib.Omega.{arith}
 use borrow.Author.Needs.{needs}
-use Prim.Native.Nat.{ℕ, _-_, _≤_}
+use Prim.Native.Nat.{_-_, _≤_}
 use mathlib.Core.Path.{_≡_, ap, _∙_}
 use lib.ListN.{length}
 use Rattle.side_cost.specs.Layers.{flipped, partSum}

@@ -1,5 +1,4 @@
 -- `side_word` meets its contract, return by return. Assumes nothing.
-use native.Mathlib.Omega.{arith}
 use borrow.Author.Needs.{needs}
 use Rattle.choice.proofs.parts.side_word.Statement.{statement}
 use Rattle.choice.proofs.parts.side_word.Tie as tie

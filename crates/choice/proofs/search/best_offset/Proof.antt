@@ -1,6 +1,5 @@
 -- `best_offset` meets its contract: the part is the partition, and the index that of its depth. Assumes nothing.
 use native.Mathlib.Omega.{arith}
-use borrow.Author.Needs.{needs}
 use Prim.Native.Nat.{ℕ, _<_}
 use lib.ListN.{getD}
 use Rattle.sides.proofs.CallLaws.{sides-bounds}

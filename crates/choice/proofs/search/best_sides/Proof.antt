@@ -1,5 +1,4 @@
 -- `best_sides` meets its contract: what it costs is the sum of its partitions. Assumes nothing.
-use native.Mathlib.Omega.{arith}
 use borrow.Author.Needs.{needs}
 use Rattle.choice.proofs.SearchLaws.{both-sides}
 use Rattle.choice.proofs.search.best_sides.Statement.{statement}

@@ -1,6 +1,6 @@
 -- `marks_beside` meets its contract: after i samples the word holds the first i marks. Assumes nothing.
 use borrow.Author.Needs.{needs}
-use Prim.Native.Nat.{_-_, _*_, _/_, _%_, _≤_, _<_}
+use Prim.Native.Nat.{_-_, _*_, _/_, _%_, _≤_}
 use mathlib.Core.Path.{_≡_, refl, ap, _∙_}
 use native.Mathlib.Omega.{arith}
 use Rattle.arith.specs.Bits.{bits}
