@@ -114,12 +114,12 @@ static double predict_time(int who, size_t n, uint64_t word) {
     return best;
 }
 
-/* Seconds for the checks of a choice: a reach of 256 is refused after table and list words are judged. */
-static double checks_time(size_t n) {
+/* Seconds for the checks of a choice: a reach of 256 is refused after the table is judged, and the words of a list that is lent. */
+static double checks_time(int built, size_t n) {
     double best = 1e9;
     for (int r = 0; r < 9; r++) {
         double start = now();
-        for (int i = 0; i < 1000; i++) check += choose_with(BENCH, 0, n, 256, i % BLOCKS).refusal;
+        for (int i = 0; i < 1000; i++) check += choose_with(BENCH, built, n, 256, i % BLOCKS).refusal;
         double spent = (now() - start) / 1000;
         if (spent < best) best = spent;
     }
@@ -150,10 +150,11 @@ int main(void) {
     random_state = 20261115;
     printf("microseconds a choice (ratios to plain C -O2, plain C -O3, the same method in C -O3)\n");
     for (int built = 0; built < 2; built++) if (!choices(built)) return 1;
-    printf("checks of a choice, 256 values: n = 8 %.2f microseconds", 1e6 * checks_time(8));
-    inputs(4, 256);
-    printf(", n = 4 %.2f microseconds\n", 1e6 * checks_time(4));
-    inputs(8, 256);
+    for (size_t n = 4; n <= 8; n += 4) {
+        inputs(n, 256);
+        printf("a refused choice, n = %zu, 256 values: %.2f microseconds with the list lent, %.2f where it would be built\n", n,
+            1e6 * checks_time(0, n), 1e6 * checks_time(1, n));
+    }
     double predict = predict_time(BENCH, 8, 0xFFFFFFFF00000000u);
     printf("predict, n = 8, 256 values: %.2f microseconds, ratio to plain C -O2 %.3f\n", 1e6 * predict,
         predict / predict_time(PLAIN2, 8, 0xFFFFFFFF00000000u));
