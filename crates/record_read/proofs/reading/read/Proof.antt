@@ -49,11 +49,18 @@ passed c = let d = c .before .before .before .before .before .before .before .be
 same : (c : tie.Else1) → let d = c .before .before .before .before .before .before .before .before .before in readLines (aids d) (records d) (d .args .bytes .now) ≡ reading d
 same c = let d = c .before .before .before .before .before .before .before .before .before in lines-passed (aids d) (d .args .bytes .now) (enough c .records-lent) ∙ sym (passed c)
 
-told : (c : tie.After-read-lines) → let d = c .before .before .before .before .before .before .before .before .before .before .before .before .before .before in c .read-lines .result ≡ linesBack (reading d)
-told c = c .read-lines .ensures .0 ∙ ap linesBack (same (c .before .before .before .before .before))
+-- where the call begins, and where the lengths have passed, from where the lines are read
+abbrev start : tie.After-read-lines → tie.Start
+start c = search needs
 
-left : (c : tie.After-read-lines) → let d = c .before .before .before .before .before .before .before .before .before .before .before .before .before .before in let w = c .read-lines .last in _≡_ {A = Slices} (w .1 .1 .1 .1 .0, (w .1 .1 .1 .1 .1 .0, (w .1 .1 .1 .1 .1 .1 .0, w .1 .1 .1 .1 .1 .1 .1 .0))) (leaving (reading d) (λ F. recordsBack F (slices d)) (slices d))
-left c = let d = c .before .before .before .before .before .before .before .before .before .before .before .before .before .before in c .read-lines .ensures .1 ∙ ap (λ (x : Lined File). leaving x (λ F. recordsBack F (slices d)) (slices d)) (same (c .before .before .before .before .before))
+abbrev past : tie.After-read-lines → tie.Else1
+past c = search needs
+
+told : (c : tie.After-read-lines) → c .read-lines .result ≡ linesBack (reading (start c))
+told c = c .read-lines .ensures .0 ∙ ap linesBack (same (past c))
+
+left : (c : tie.After-read-lines) → let d = start c in let w = c .read-lines .last in _≡_ {A = Slices} (w .1 .1 .1 .1 .0, (w .1 .1 .1 .1 .1 .0, (w .1 .1 .1 .1 .1 .1 .0, w .1 .1 .1 .1 .1 .1 .1 .0))) (leaving (reading d) (λ F. recordsBack F (slices d)) (slices d))
+left c = let d = start c in c .read-lines .ensures .1 ∙ ap (λ (x : Lined File). leaving x (λ F. recordsBack F (slices d)) (slices d)) (same (past c))
 
 records-lent-requires : tie.Need-records-lent-requires
 records-lent-requires c κs = search needs
@@ -73,12 +80,25 @@ returns c =
 read-lines-requires : tie.Need-read-lines-requires
 read-lines-requires c κs = search needs
 
+returns-2 : tie.Need-returns-2
+returns-2 c =
+    let w = c .before .before .before .before .before .before .before .before .before .before .before .before .before .before .before in
+    let d = start w in
+    let l = enough (past w) in
+    let x = sym (passed (past w)) in (
+      c .told-back .ensures ∙ back-is (aids d) (d .args .bytes .now) (reading d) x (l .inside) (l .few) _ (told w),
+      (
+        left w,
+        drawn (aids d) (d .args .bytes .now) (reading d) x (l .inside) (l .few) _ (told w) (slices d) (left w) (l .records-lent) (d .args .samples .now) (l .samples-lent) (c .before .before .before .fill .ensures),
+      ),
+    )
+
 fill-requires : tie.Need-fill-requires
 fill-requires c κs =
     let w = c .before .before .before .before .before .before .before .before .before .before .before in
-    let d = w .before .before .before .before .before .before .before .before .before .before .before .before .before .before in
-    let l = enough (w .before .before .before .before .before) in
-    let x = sym (passed (w .before .before .before .before .before)) in (
+    let d = start w in
+    let l = enough (past w) in
+    let x = sym (passed (past w)) in (
       fits (aids d) (d .args .bytes .now) (reading d) x (l .inside) (l .few) _ (told w) (l .samples-lent),
       (
         blocks-room (aids d) (d .args .bytes .now) (reading d) x (l .inside) (l .few) _ (told w) (slices d) (left w) (l .records-lent),
@@ -89,9 +109,9 @@ fill-requires c κs =
 told-back-requires : tie.Need-told-back-requires
 told-back-requires c κs =
     let w = c .before .before .before .before .before .before .before .before .before .before .before .before .before .before in
-    let d = w .before .before .before .before .before .before .before .before .before .before .before .before .before .before in
-    let l = enough (w .before .before .before .before .before) in
-    blocks-fit (aids d) (d .args .bytes .now) (reading d) (sym (passed (w .before .before .before .before .before))) (l .inside) (l .few) _ (told w)
+    let d = start w in
+    let l = enough (past w) in
+    blocks-fit (aids d) (d .args .bytes .now) (reading d) (sym (passed (past w))) (l .inside) (l .few) _ (told w)
 
 same-length : tie.Need-same-length
 same-length c = search needs
@@ -107,19 +127,6 @@ same-length-4 c = search needs
 
 same-length-5 : tie.Need-same-length-5
 same-length-5 c = search needs
-
-returns-2 : tie.Need-returns-2
-returns-2 c =
-    let w = c .before .before .before .before .before .before .before .before .before .before .before .before .before .before .before in
-    let d = w .before .before .before .before .before .before .before .before .before .before .before .before .before .before in
-    let l = enough (w .before .before .before .before .before) in
-    let x = sym (passed (w .before .before .before .before .before)) in (
-      c .told-back .ensures ∙ back-is (aids d) (d .args .bytes .now) (reading d) x (l .inside) (l .few) _ (told w),
-      (
-        left w,
-        drawn (aids d) (d .args .bytes .now) (reading d) x (l .inside) (l .few) _ (told w) (slices d) (left w) (l .records-lent) (d .args .samples .now) (l .samples-lent) (c .before .before .before .fill .ensures),
-      ),
-    )
 
 pub read-spec : {M : Type 1} → statement M
 read-spec =
