@@ -99,10 +99,8 @@ returns-2 c =
     let part = c .before .before .before .before in
     let own = part .before .before in
     let a = begin (own .before .before .before) .args in
-    let same =
-        case-cut (a .n) (a .list .now) (a .count) (a .table .now) (a .reach) (ltb 0 (length (a .texture .now)))
-        (own .before .neighbours-of .ensures) (own .cut .ensures) (part .before .cut2 .ensures) (part .lent-part .ensures)
-    in
+    let case = case-cut (a .n) (a .list .now) (a .count) (a .table .now) (a .reach) (ltb 0 (length (a .texture .now))) in
+    let same = case (own .before .neighbours-of .ensures) (own .cut .ensures) (part .before .cut2 .ensures) (part .lent-part .ensures) in
     let found = c .choose .ensures .0 ∙ ap chooseAnswer same in
     found
 
