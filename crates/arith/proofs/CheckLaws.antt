@@ -10,6 +10,10 @@ pub passed : (b : Bool) (k rest : ℕ) → unless b (suc k) rest ≡ 0 → (b �
 passed true k rest h = (refl, h)
 passed false k rest h = absurd (omega arith)
 
+-- the check fails: its number, whatever the checks after it say
+pub failed : (k rest : ℕ) {b : Bool} → b ≡ false → k ≡ unless b k rest
+failed k rest e = rw e
+
 -- a check as the code makes it: its test b is the check a, and r is what the checks after it say
 pub checked : (k : ℕ) {t r s : ℕ} {a b : Bool} → t ≡ unless b k r → b ≡ a → r ≡ s → t ≡ unless a k s
 checked k e f g = e ∙ ap₂ (λ (x : Bool) (y : ℕ). unless x k y) f g

@@ -28,6 +28,14 @@ pub size-first : (C : Case) → sizeOk (C .n) ≡ false → refused 1 ≡ choose
 unfolding chooseAnswer chooseRefusal
 size-first C e = rw e
 
+-- the case that the code makes of what `neighbours_of`, `cut` of the original and `cut` of the texture answer, and of how much texture is lent
+pub case-cut :
+    (n : ℕ) (list : List ℕ) (count : ℕ) (t : List ℕ) (reach : ℕ) {near own light near′ own′ light′ : List ℕ} {part : ℕ} (b : Bool) → near ≡ near′
+    → own ≡ own′ → light ≡ light′ → part ≡ cond b (n * n) 0
+    → caseOf n list count (take (4 * n) near) (take (n * n) own) t reach (take part light)
+    ≡ caseOf n list count (take (4 * n) near′) (take (n * n) own′) t reach (cond b (take (n * n) light′) [])
+case-cut n list count t reach {light′ = light′} b e f g h = rw (e, f, g, h, take-part b (n * n) light′)
+
 -- the texture of a block that lies inside it
 texture-inside :
     (n w k : ℕ) (texture : List ℕ) (b : Bool) → (b ≡ true → liesIn n w k (length texture) ≡ true)

@@ -1,9 +1,11 @@
 -- `file_calls_choose` meets its contract, case by case of what `choose` answered. Assumes nothing.
-use mathlib.Core.Path.{sym, ap, _∙_}
+use mathlib.Core.Path.{sym, ap, ap₂, _∙_}
+use lib.IntN.{ℤ}
 use mir.Syntax.{w32}
 use mir.ValLaws.{toZ-ofZ}
 use Rattle.arith.specs.Checks.{refused}
 use Rattle.choice.specs.Answer.{chooseTold}
+use Rattle.file_calls.specs.declared.FileChosen.{FileChosen}
 use Rattle.file_calls.specs.Structs.{chosenOf}
 use borrow.Author.Needs.{needs}
 use Rattle.file_calls.proofs.file_calls_choose.Statement.{statement}
@@ -27,7 +29,8 @@ returns c =
     let b = told .answer .given .0 .0 in
     let e = toZ-ofZ w32 (b .off0) (search needs) in
     let f = toZ-ofZ w32 (b .off1) (search needs) in
-    cc (e, f, ap (λ a. chosenOf (chooseTold a)) (told .answer .given .1), ap chosenOf (told .before .before .choose .ensures .0))
+    let chosen : ℤ → ℤ → FileChosen = λ x y. record { refusal = 0; kind = b .kind; entry = b .entry; off0 = x; off1 = y; cost = b .cost } in
+    ap₂ chosen e f ∙ ap chosenOf (sym (ap chooseTold (told .answer .given .1)) ∙ told .before .before .choose .ensures .0)
 
 returns-2 : tie.Need-returns-2
 returns-2 c =

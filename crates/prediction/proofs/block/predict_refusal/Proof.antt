@@ -1,10 +1,10 @@
 -- `predict_refusal` meets its contract: the size first, then the other checks in their order.
-use mathlib.Core.Path.{refl, sym, ap, _∙_}
+use mathlib.Core.Path.{_≡_, refl, sym, ap, _∙_}
 use mir.Syntax.{w32}
 use mir.ValLaws.{toZ-ofZ}
 use borrow.Author.Tests.{not-true, not-false}
 use Rattle.pattern.proofs.SizeLaws.{size-bounds}
-use Rattle.arith.proofs.CheckLaws.{checked}
+use Rattle.arith.proofs.CheckLaws.{failed, checked}
 use Rattle.offset.specs.Offset.{offsetOk}
 use Rattle.prediction.specs.Answer.{predictRefusal}
 use Rattle.prediction.proofs.block.predict_refusal.Statement.{statement}
@@ -15,7 +15,11 @@ size-ok-requires c κs = tt
 
 returns : tie.Need-returns
 unfolding predictRefusal
-returns c = rw (sym (c .before .size-ok .ensures) ∙ not-true _ (c .if1 .taken))
+returns c =
+    let a = c .before .before .before .args in
+    let found = failed 1 _ (sym (c .before .size-ok .ensures) ∙ not-true _ (c .if1 .taken)) in
+    let clause : 1 ≡ predictRefusal (a .n) (a .word) (a .neighbours) (a .table .now) (a .off0) (a .off1) (a .samples) = found in
+    clause
 
 lengths-ok-requires : tie.Need-lengths-ok-requires
 lengths-ok-requires c κs =

@@ -1,8 +1,12 @@
 -- `record_refusal` meets its contract: the record's numbers are judged.
 use borrow.Author.Needs.{needs}
+use Prim.Native.Nat.{ℕ}
+use mathlib.Core.Path.{_≡_, _∙_, ap₂}
+use lib.IntN.{ℤ}
 use mir.Syntax.{w32}
-use mir.Val.{SFits}
+use mir.Val.{toZ, ofZ}
 use mir.ValLaws.{toZ-ofZ}
+use Rattle.record_checks.specs.Meaning.{recordOf, recordRefusal}
 use Rattle.record_file.proofs.meaning.record_refusal.Statement.{statement}
 use Rattle.record_file.proofs.meaning.record_refusal.Tie as tie
 
@@ -11,10 +15,11 @@ record-refusal-requires c κs = tt
 
 returns : tie.Need-returns
 returns c =
-    let r = c .before .before .before .before .args .r in
-    let f0 : SFits w32 (r .off0) = search needs in
-    let f1 : SFits w32 (r .off1) = search needs in
-    rw (toZ-ofZ w32 (r .off0) f0, toZ-ofZ w32 (r .off1) f1) at (c .record-refusal .ensures)
+    let a = c .before .before .before .before .args in
+    let r = a .r in
+    let judged : ℤ → ℤ → ℕ = λ x y. recordRefusal (a .n) (a .list .now) (a .count) (a .textured) (recordOf (r .kind) (r .entry) x y) in
+    let found : c .record-refusal .result ≡ judged (toZ w32 (ofZ w32 (r .off0))) (toZ w32 (ofZ w32 (r .off1))) = c .record-refusal .ensures in
+    found ∙ ap₂ judged (toZ-ofZ w32 (r .off0) (search needs)) (toZ-ofZ w32 (r .off1) (search needs))
 
 pub record-refusal-spec : {M : Type 1} → statement M
 record-refusal-spec = tie.close (tie.spec record-refusal-requires returns)

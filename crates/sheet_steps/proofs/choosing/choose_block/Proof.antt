@@ -3,15 +3,15 @@ use borrow.Author.Needs.{needs}
 use borrow.Author.Tests.{not-true, not-false}
 use Prim.Native.Nat.{_*_, _≤_}
 use mathlib.Core.Bool.{Bool, true, false, cond}
-use mathlib.Core.Path.{_≡_, sym, _∙_}
+use mathlib.Core.Path.{_≡_, sym, ap, _∙_}
 use native.Mathlib.Omega.{arith}
 use lib.Dec.{ltb}
 use lib.ListN.{length}
 use lib.Seq.{length-take-le}
 use Rattle.pattern.proofs.SizeLaws.{size-bounds, square-64}
-use Rattle.sheet_blocks.specs.Answer.{cutAnswer}
+use Rattle.choice.specs.Answer.{chooseAnswer}
 use Rattle.sheet_steps.specs.Steps.{blockCase}
-use Rattle.sheet_steps.proofs.ChooseLaws.{size-first, take-part}
+use Rattle.sheet_steps.proofs.ChooseLaws.{size-first, case-cut}
 use Rattle.sheet_steps.proofs.choosing.choose_block.Statement.{statement}
 use Rattle.sheet_steps.proofs.choosing.choose_block.Tie as tie
 
@@ -99,13 +99,10 @@ returns-2 c =
     let part = c .before .before .before .before in
     let own = part .before .before in
     let a = begin (own .before .before .before) .args in
-    rw (
-      own .before .neighbours-of .ensures,
-      own .cut .ensures,
-      part .before .cut2 .ensures,
-      part .lent-part .ensures,
-      take-part (ltb 0 (length (a .texture .now))) (a .n * a .n) (cutAnswer (a .n) (a .width) (a .k) (a .texture .now)),
-    ) at (c .choose .ensures .0)
+    let case = case-cut (a .n) (a .list .now) (a .count) (a .table .now) (a .reach) (ltb 0 (length (a .texture .now))) in
+    let same = case (own .before .neighbours-of .ensures) (own .cut .ensures) (part .before .cut2 .ensures) (part .lent-part .ensures) in
+    let found = c .choose .ensures .0 ∙ ap chooseAnswer same in
+    found
 
 pub choose-block-spec : {M : Type 1} → statement M
 choose-block-spec =

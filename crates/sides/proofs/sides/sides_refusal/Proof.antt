@@ -1,7 +1,8 @@
 -- `sides_refusal` meets its contract, check by check.
-use mathlib.Core.Path.{sym, _∙_}
+use mathlib.Core.Path.{_≡_, sym, _∙_}
 use native.Mathlib.Omega.{arith}
 use borrow.Author.Tests.{not-true, not-false, eq-eqb, ne-eqb}
+use Rattle.arith.proofs.CheckLaws.{failed}
 use Rattle.pattern.proofs.SizeLaws.{size-bounds}
 use Rattle.sides.specs.Answer.{sidesRefusal}
 use Rattle.sides.proofs.sides.sides_refusal.Statement.{statement}
@@ -12,7 +13,11 @@ size-ok-requires c κs = tt
 
 returns : tie.Need-returns
 unfolding sidesRefusal
-returns c = rw (sym (c .before .size-ok .ensures) ∙ not-true _ (c .if1 .taken))
+returns c =
+    let a = c .before .before .before .args in
+    let found = failed 1 _ (sym (c .before .size-ok .ensures) ∙ not-true _ (c .if1 .taken)) in
+    let clause : 1 ≡ sidesRefusal (a .n) (a .word) (a .border .now) = found in
+    clause
 
 mul-if2 : tie.Need-mul-if2
 mul-if2 c = omega (arith, size-bounds (c .before .before .before .args .n) (sym (c .before .size-ok .ensures) ∙ not-false _ (c .if1 .left)))
