@@ -4,10 +4,11 @@ use mathlib.Core.List.{List, []}
 use lib.ListN.{getD, replicate}
 use Rattle.arith.specs.Lists.{listOf, upto}
 use Rattle.arith.specs.Square.{place}
+use Rattle.pattern.specs.Size.{greatestSize}
 
 -- the rows and columns that a block has room for
 abbrev pub capacity : ℕ
-capacity = 8
+capacity = greatestSize
 
 -- sample (x, y), column and row from 0
 abbrev pub sample : List (List ℕ) → ℕ → ℕ → ℕ

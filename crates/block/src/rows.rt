@@ -4,22 +4,22 @@ ghost use Prim.Native.Nat.{_+_, _*_, _<_, _≤_};
 ghost use lib.ListN.{length, getD};
 ghost use Rattle.arith.specs.Lists.{upto};
 ghost use Rattle.arith.specs.Square.{place};
-ghost use Rattle.block.specs.Block.{sample, blockOf, transposedBlock, samplesOf};
+ghost use Rattle.block.specs.Block.{capacity, sample, blockOf, transposedBlock, samplesOf};
 ghost use Rattle.pattern.specs.Answer.{samplesRefusal};
 ghost use Rattle.block.specs.Answer.{blockAnswer, transposedAnswer, samplesAfter};
 use pattern::samples_refusal;
 use pattern::size_ok;
 
 // The rows and columns that a block has room for.
-pub const CAPACITY: usize = 8;
+pub const CAPACITY: usize = pattern::GREATEST_SIZE;
 
 // Sample (x, y) is b[y][x].
 pub type Block = [[u8; CAPACITY]; CAPACITY];
 
 // Row y of n rows of n samples.
 fn row(n: usize, samples: &[u8], y: usize) -> [u8; CAPACITY]
-    requires { ⌜ (n ≤ 8) × (y < n) × (length (now samples) ≡ n * n) ⌝ }
-    ensures { λ r. ⌜ r ≡ upto 8 n (λ x. getD (now (samples .entry)) (place n x y) 0) 0 ⌝ }
+    requires { ⌜ (n ≤ capacity) × (y < n) × (length (now samples) ≡ n * n) ⌝ }
+    ensures { λ r. ⌜ r ≡ upto capacity n (λ x. getD (now (samples .entry)) (place n x y) 0) 0 ⌝ }
 {
     let mut r = [0u8; CAPACITY];
     for x in 0..n {
@@ -30,8 +30,8 @@ fn row(n: usize, samples: &[u8], y: usize) -> [u8; CAPACITY]
 
 // The block of n * n samples that come row by row.
 fn rows_of(n: usize, samples: &[u8]) -> Block
-    requires { ⌜ (n ≤ 8) × (length (now samples) ≡ n * n) ⌝ }
-    ensures { λ r. ⌜ r ≡ blockOf 8 n (now (samples .entry)) ⌝ }
+    requires { ⌜ (n ≤ capacity) × (length (now samples) ≡ n * n) ⌝ }
+    ensures { λ r. ⌜ r ≡ blockOf capacity n (now (samples .entry)) ⌝ }
 {
     let mut b = [[0u8; CAPACITY]; CAPACITY];
     for y in 0..n {
@@ -52,8 +52,8 @@ pub fn block_of(n: usize, samples: &[u8]) -> Block
 
 // Column x of a block.
 fn column(n: usize, b: Block, x: usize) -> [u8; CAPACITY]
-    requires { ⌜ (n ≤ 8) × (x < n) ⌝ }
-    ensures { λ r. ⌜ r ≡ upto 8 n (λ y. sample b x y) 0 ⌝ }
+    requires { ⌜ (n ≤ capacity) × (x < n) ⌝ }
+    ensures { λ r. ⌜ r ≡ upto capacity n (λ y. sample b x y) 0 ⌝ }
 {
     let mut r = [0u8; CAPACITY];
     for y in 0..n {
@@ -64,8 +64,8 @@ fn column(n: usize, b: Block, x: usize) -> [u8; CAPACITY]
 
 // The block transposed: its columns become rows.
 fn columns_of(n: usize, b: Block) -> Block
-    requires { ⌜ n ≤ 8 ⌝ }
-    ensures { λ r. ⌜ r ≡ transposedBlock 8 n b ⌝ }
+    requires { ⌜ n ≤ capacity ⌝ }
+    ensures { λ r. ⌜ r ≡ transposedBlock capacity n b ⌝ }
 {
     let mut t = [[0u8; CAPACITY]; CAPACITY];
     for x in 0..n {
@@ -86,7 +86,7 @@ pub fn transposed(n: usize, b: Block) -> Block
 
 // The samples of a block row by row, written to the lent slice.
 fn put_samples(n: usize, b: Block, samples: &mut [u8])
-    requires { ⌜ (n ≤ 8) × (length (now samples) ≡ n * n) ⌝ }
+    requires { ⌜ (n ≤ capacity) × (length (now samples) ≡ n * n) ⌝ }
     ensures { λ _. ⌜ now (samples .exit) ≡ samplesOf n b ⌝ }
 {
     for k in 0..n * n {

@@ -13,7 +13,7 @@ use Rattle.pattern.proofs.SizeLaws.{size-bounds}
 pub record SamplesFit (n samples : ℕ) : Type 0 where
   pub size : sizeOk n ≡ true
   pub low : 4 ≤ n
-  pub high : n ≤ 8
+  pub high : n ≤ 16
   pub square : samples ≡ n * n
 
 pub samples-fit : (n samples : ℕ) → samplesRefusal n samples ≡ 0 → SamplesFit n samples

@@ -1,5 +1,5 @@
 -- Laws of patterns, mark by mark. Assumes nothing.
-use Prim.Native.Nat.{ℕ, _-_, _*_, _/_, _%_, _^_, _<_}
+use Prim.Native.Nat.{ℕ, _*_, _/_, _%_, _^_, _<_}
 use mathlib.Core.Bool.{Bool, false}
 use mathlib.Core.Path.{_≡_, sym, ap, ap₂, _∙_}
 use lib.Arith.{digits-div, digits-mod}

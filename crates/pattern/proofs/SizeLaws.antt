@@ -1,51 +1,55 @@
 -- Bounds of the allowed sizes and of what they hold. Assumes nothing.
-use Prim.Native.Nat.{ℕ, _+_, _-_, _*_, _/_, _^_, _≤_, _<_}
-use mathlib.Core.Bool.{Bool, true, false, _&&_}
-use mathlib.Core.Logic.{⊎-elim}
-use mathlib.Core.Path.{_≡_, sym, ap, ap₂, _∙_}
-use native.Mathlib.Nat.{mul-le-mul, pow-suc, add-sub-of-le, div-eq-of-lt, div-lt-iff-lt-mul, lt-of-lt-of-le, one-mul}
+use Prim.Native.Nat.{ℕ, _*_, _/_, _^_, _≤_, _<_}
+use mathlib.Core.Bool.{Bool, true, _&&_, _||_}
+use mathlib.Core.Logic.{_⊎_, ⊎-elim, inl, inr}
+use mathlib.Core.Path.{_≡_, refl, sym, ap, _∙_}
+use native.Mathlib.Nat.{mul-le-mul, div-eq-of-lt, div-lt-iff-lt-mul, one-mul}
 use native.Mathlib.Omega.{arith}
 use borrow.Author.Tests.{eqb-true, eq-eqb, ne-eqb, lt-ltb, le-ltb}
 use native.Mathlib.Decide.{decLt}
 use lib.Dec.{eqb, ltb}
-use lib.Pow.{pow-pos, pow-mono, ones-split, ones-lt, high}
-use Rattle.arith.proofs.Bools.{either-of}
+use lib.Pow.{pow-pos}
+use Rattle.arith.proofs.Bools.{both-of, either-of}
 use Rattle.arith.proofs.SquareLaws.{square-le}
-use Rattle.arith.specs.Bits.{bit}
-use Rattle.pattern.specs.Size.{sizeOk, wordOk}
-use Rattle.pattern.specs.Pattern.{withBit}
+use Rattle.pattern.specs.Size.{greatestSize, greatestSamples, sizeOk, eachSize}
 
--- an allowed size is 4 to 8
-pub size-bounds : (n : ℕ) → sizeOk n ≡ true → (4 ≤ n) × (n ≤ 8)
-size-bounds n h =
-    ⊎-elim (λ e. omega (arith, eqb-true n 4 e)) (λ e. omega (arith, eqb-true n 8 e)) (either-of (eqb n 4) (eqb n 8) h)
+-- an allowed size is up to 8, or the greatest
+pub size-cases : (n : ℕ) → sizeOk n ≡ true → ((4 ≤ n) × (n ≤ 8)) ⊎ (n ≡ greatestSize)
+size-cases n h =
+    ⊎-elim
+    (λ e. inl (omega (arith, eqb-true n 4 e)))
+    (λ r. ⊎-elim (λ e. inl (omega (arith, eqb-true n 8 e))) (λ e. inr (eqb-true n greatestSize e)) (either-of (eqb n 8) (eqb n greatestSize) r))
+    (either-of (eqb n 4) (eqb n 8 || eqb n greatestSize) h)
 
--- a block of at most 8 by 8 samples has at most 64
+-- what holds for each allowed size holds for an allowed size, and the other way round
+pub size-each : (ok : ℕ → Bool) → ((n : ℕ) → sizeOk n ≡ true → ok n ≡ true) → eachSize ok ≡ true
+size-each ok all = rw (all 4 refl, all 8 refl, all greatestSize refl)
+
+pub each-size : (ok : ℕ → Bool) (n : ℕ) → eachSize ok ≡ true → sizeOk n ≡ true → ok n ≡ true
+each-size ok n h s =
+    let a = both-of (ok 4) (ok 8 && ok greatestSize) h in
+    let b = both-of (ok 8) (ok greatestSize) (a .1) in
+    ⊎-elim
+    (λ e. ap ok (eqb-true n 4 e) ∙ a .0)
+    (λ r. ⊎-elim (λ e. ap ok (eqb-true n 8 e) ∙ b .0) (λ e. ap ok (eqb-true n greatestSize e) ∙ b .1) (either-of (eqb n 8) (eqb n greatestSize) r))
+    (either-of (eqb n 4) (eqb n 8 || eqb n greatestSize) s)
+
+pub size-bounds : (n : ℕ) → sizeOk n ≡ true → (4 ≤ n) × (n ≤ greatestSize)
+size-bounds n h = ⊎-elim (λ b. omega arith) (λ e. omega arith) (size-cases n h)
+
+-- past 8 there is the greatest alone
+pub size-wide : (n : ℕ) → sizeOk n ≡ true → 8 < n → n ≡ greatestSize
+size-wide n h l = ⊎-elim (λ b. absurd (omega arith)) (λ e. e) (size-cases n h)
+
+-- a block of at most 8 by 8 samples has at most 64, and each block at most as many as the greatest
 pub square-64 : {n : ℕ} → n ≤ 8 → n * n ≤ 64
 square-64 h = square-le {m = 8} h
 
+pub square-256 : {n : ℕ} → n ≤ greatestSize → n * n ≤ greatestSamples
+square-256 h = square-le {m = greatestSize} h
+
 pub one-le-square : {n : ℕ} → 1 ≤ n → 1 ≤ n * n
 one-le-square h = mul-le-mul {n₁ = 1} {m₁ = 1} h h
-
--- a set bit above a number fits 64 bits
-pub one-more : (w i : ℕ) → i < 64 → w < 2 ^ i → w + 2 ^ i < 2 ^ 64
-one-more w i h l = omega (arith, pow-suc 2 i, pow-mono h)
-
--- a bit set above a number is added to it
-pub with-bit-free : (w k : ℕ) (on : Bool) → k < 64 → w < 2 ^ k → withBit w k on ≡ w + bit on * 2 ^ k
-with-bit-free w k on h l =
-    ap₂ (λ (a b : Bool). w + bit (a && (b && on)) * 2 ^ k) (lt-ltb k 64 h) (lt-ltb w (2 ^ k) l)
-
--- the largest number of j bits, out of the largest of 64
-pub all-ones : (j : ℕ) → j ≤ 64 → 18446744073709551615 / 2 ^ (64 - j) ≡ 2 ^ j - 1
-all-ones j h =
-    ap (λ (x : ℕ). (2 ^ x - 1) / 2 ^ (64 - j)) (sym (add-sub-of-le h))
-    ∙ ap (λ (x : ℕ). x / 2 ^ (64 - j)) (ones-split j (64 - j))
-    ∙ high (2 ^ j - 1) (64 - j) (ones-lt (64 - j))
-
--- a 64-bit word marks samples of a block of 8 or more only
-pub word-fits : (n w : ℕ) → 8 ≤ n → w < 2 ^ 64 → wordOk n w ≡ true
-word-fits n w h l = lt-ltb w (2 ^ (n * n)) (lt-of-lt-of-le l (pow-mono (square-le {n = 8} h)))
 
 -- a quotient of 0: the number is below the divisor
 lt-of-zero-div : (w p : ℕ) → 0 < p → w / p ≡ 0 → w < p
@@ -62,13 +66,3 @@ shifted-none w k = go (decLt w (2 ^ k))
     go (no h) =
         let l : 2 ^ k ≤ w = omega arith in
         ne-eqb (w / 2 ^ k) 0 (λ e. h (lt-of-zero-div w (2 ^ k) (pow-pos k) e)) ∙ sym (le-ltb w (2 ^ k) l)
-
--- the same as a bound
-pub below-of-shifted : (w k : ℕ) → w / 2 ^ k ≡ 0 → w < 2 ^ k
-below-of-shifted w k e = lt-of-zero-div w (2 ^ k) (pow-pos k) e
-
--- a word with a bit from k up stays as it is
-pub with-bit-kept : (w k : ℕ) (on : Bool) → k < 64 → (w / 2 ^ k ≡ 0 → ⊥) → w ≡ withBit w k on
-with-bit-kept w k on h z =
-    let e : ltb w (2 ^ k) ≡ false = sym (shifted-none w k) ∙ ne-eqb (w / 2 ^ k) 0 z in
-    rw (lt-ltb k 64 h) (rw e (omega arith))

@@ -8,9 +8,9 @@ use Rattle.arith.specs.Checks.{unless, Answer, answer}
 use Rattle.pattern.specs.Size.{sizeOk}
 use Rattle.pattern.specs.Contour.{contourOf}
 
--- a list's count: no more than the words lent, and at most 9,999
+-- a list's count: no more than the whole patterns lent, and at most 9,999
 abbrev pub countOk : ℕ → ℕ → Bool
-countOk words count = leb count words && leb count 9999
+countOk patterns count = leb count patterns && leb count 9999
 
 -- texture of none, or of as many samples as what it belongs to
 abbrev pub textureOk : ℕ → ℕ → Bool
@@ -24,6 +24,6 @@ textured texture = ltb 0 (length texture)
 unfoldable pub samplesRefusal : ℕ → ℕ → ℕ
 samplesRefusal n samples = unless (sizeOk n) 1 (unless (eqb samples (n * n)) 2 0)
 
--- `contour` answers the word
+-- `contour` answers the pattern
 unfoldable pub contourAnswer : ℕ → List ℕ → Answer ℕ
 contourAnswer n t = answer (samplesRefusal n (length t)) (contourOf n t)

@@ -1,6 +1,7 @@
 -- The definitions that the contracts of `pattern` cite.
 pub mod Size
 pub mod Pattern
+pub mod Words
 pub mod Contour
 pub mod Answer
 pub mod Told

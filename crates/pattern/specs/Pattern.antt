@@ -1,9 +1,8 @@
 -- A pattern of an n by n block is a natural number: bit y * n + x is the mark of sample (x, y), column and row from 0.
 -- Partition 1 is the samples with a mark, partition 0 those without. Assumes nothing.
-use Prim.Native.Nat.{ℕ, _+_, _-_, _*_, _/_, _%_, _^_}
-use mathlib.Core.Bool.{Bool, _&&_}
-use lib.Dec.{ltb}
-use Rattle.arith.specs.Bits.{bit, bits, testBit}
+use Prim.Native.Nat.{ℕ, _-_, _*_, _/_, _%_, _^_}
+use mathlib.Core.Bool.{Bool}
+use Rattle.arith.specs.Bits.{bits, testBit}
 use Rattle.arith.specs.Square.{place}
 
 -- the mark of (x, y)
@@ -21,7 +20,3 @@ complement n w = 2 ^ (n * n) - 1 - w
 -- transposed (document 01: turned): the mark of (x, y) moves to (y, x)
 abbrev pub transposed : ℕ → ℕ → ℕ
 transposed n w = pattern n (λ x y. mark n w y x)
-
--- A 64-bit pattern is made mark by mark: bit k is set where `on` holds and the word has no bit from k up; else the word stays.
-abbrev pub withBit : ℕ → ℕ → Bool → ℕ
-withBit w k on = w + bit (ltb k 64 && (ltb w (2 ^ k) && on)) * 2 ^ k

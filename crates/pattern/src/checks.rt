@@ -11,11 +11,11 @@ pub fn check(ok: bool, number: u8, rest: u8) -> u8
     if ok { rest } else { number }
 }
 
-// Whether a list has so many words, and the count is at most 9,999.
-pub fn count_ok(words: usize, count: usize) -> bool
-    ensures { λ r. ⌜ r ≡ countOk words count ⌝ }
+// Whether a list has so many whole patterns, and the count is at most 9,999.
+pub fn count_ok(patterns: usize, count: usize) -> bool
+    ensures { λ r. ⌜ r ≡ countOk patterns count ⌝ }
 {
-    count <= words && count <= 9999
+    count <= patterns && count <= 9999
 }
 
 // The lesser of two numbers.

@@ -1,18 +1,21 @@
 // The contour of a block's texture.
 ghost use mathlib.Core.Path.{_≡_};
-ghost use Prim.Native.Nat.{_*_, _≤_};
+ghost use Prim.Native.Nat.{ℕ, _+_, _*_, _≤_, _<_};
 ghost use lib.Dec.{ltb};
 ghost use lib.ListN.{length, getD};
 ghost use Rattle.arith.specs.Bits.{bits};
+ghost use Rattle.pattern.specs.Size.{greatestSize};
 ghost use Rattle.pattern.specs.Contour.{threshold};
 ghost use Rattle.pattern.specs.Answer.{samplesRefusal, contourAnswer};
 ghost use Rattle.pattern.specs.Told.{contourTold};
+use crate::checks::lesser;
 use crate::size::size_ok;
-use crate::size::with_bit;
+use crate::words::Pattern;
+use crate::words::past_word;
 
-// What the contour answers: its word, or the number of the refusal.
+// What the contour answers: its pattern, or the number of the refusal.
 pub enum Contoured {
-    Word(u64),
+    Pattern(Pattern),
     Refused(u8),
 }
 
@@ -38,7 +41,7 @@ fn wide(x: u8) -> u64
 
 // The mean of the texture samples, rounded down.
 fn mean(n: usize, texture: &[u8]) -> u64
-    requires { ⌜ (1 ≤ n) × (n ≤ 8) × (length (now texture) ≡ n * n) ⌝ }
+    requires { ⌜ (1 ≤ n) × (n ≤ greatestSize) × (length (now texture) ≡ n * n) ⌝ }
     ensures { λ r. ⌜ r ≡ threshold n (now (texture .entry)) ⌝ }
 {
     let mut sum: u64 = 0;
@@ -48,14 +51,16 @@ fn mean(n: usize, texture: &[u8]) -> u64
     sum / ((n * n) as u64)
 }
 
-// The pattern of the samples above a level.
-fn above(n: usize, texture: &[u8], level: u64) -> u64
-    requires { ⌜ (1 ≤ n) × (n ≤ 8) × (length (now texture) ≡ n * n) ⌝ }
-    ensures { λ r. ⌜ r ≡ bits (λ i. ltb level (getD (now (texture .entry)) i 0)) (n * n) ⌝ }
+// One word: which of `count` samples from `from` on are above a level.
+fn above(texture: &[u8], from: usize, count: usize, level: u64) -> u64
+    requires { ⌜ (count ≤ 64) × ((i : ℕ) → i < count → from + i < length (now texture)) ⌝ }
+    ensures { λ r. ⌜ r ≡ bits (λ i. ltb level (getD (now (texture .entry)) (from + i) 0)) count ⌝ }
 {
     let mut w: u64 = 0;
-    for i in 0..n * n {
-        w = with_bit(w, i, level < wide(texture[i]));
+    for i in 0..count {
+        if level < wide(texture[from + i]) {
+            w += 1 << i;
+        }
     }
     w
 }
@@ -69,5 +74,14 @@ pub fn contour(n: usize, texture: &[u8]) -> Contoured
         return Contoured::Refused(refusal);
     }
     let level = mean(n, texture);
-    Contoured::Word(above(n, texture, level))
+    let c0 = n * n;
+    let c1 = past_word(c0);
+    let c2 = past_word(c1);
+    let c3 = past_word(c2);
+    Contoured::Pattern(Pattern {
+        w0: above(texture, 0, lesser(c0, 64), level),
+        w1: above(texture, 64, lesser(c1, 64), level),
+        w2: above(texture, 128, lesser(c2, 64), level),
+        w3: above(texture, 192, lesser(c3, 64), level),
+    })
 }

@@ -2,6 +2,7 @@
 mod checks;
 mod contours;
 mod size;
+mod words;
 
 pub use checks::check;
 pub use checks::count_ok;
@@ -9,7 +10,17 @@ pub use checks::lesser;
 pub use contours::Contoured;
 pub use contours::contour;
 pub use contours::samples_refusal;
-pub use size::mark_at;
+pub use size::GREATEST_SIZE;
+pub use size::NEIGHBOURS;
+pub use size::SAMPLES;
 pub use size::size_ok;
-pub use size::with_bit;
-pub use size::word_ok;
+pub use words::Pattern;
+pub use words::WORDS;
+pub use words::mark_at;
+pub use words::marks;
+pub use words::one_word;
+pub use words::pattern_at;
+pub use words::used_words;
+pub use words::whole_patterns;
+pub use words::word_ok;
+pub use words::words_of;

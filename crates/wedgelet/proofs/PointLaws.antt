@@ -1,23 +1,18 @@
 -- The border points, and the candidate across the diagonal. Assumes nothing.
-use Prim.Native.Nat.{ℕ, zero, suc, _+_, _-_, _*_, _/_, _%_, _^_, _≤_, _<_, min}
-use mathlib.Core.Bool.{Bool, true, false, not, cond}
+use Prim.Native.Nat.{ℕ, zero, suc, _-_, _*_, _/_, _%_, _^_, _≤_, _<_, min}
+use mathlib.Core.Bool.{Bool, true, false, cond}
 use mathlib.Core.Path.{_≡_, refl, sym, ap, _∙_}
-use native.Mathlib.Nat.{div-one}
 use native.Mathlib.Omega.{arith}
-use lib.Dec.{ltb, eqb}
-use borrow.Author.Tests.{eq-eqb, ne-eqb, lt-ltb, ltb-true, ltb-false}
+use lib.Dec.{ltb}
+use borrow.Author.Tests.{lt-ltb, ltb-true, ltb-false}
 use Rattle.arith.proofs.BitLaws.{bits-lt, bits-not}
 use Rattle.pattern.specs.Pattern.{pattern, mark, complement, transposed}
+use Rattle.wedgelet.specs.Half.{flip}
 use Rattle.wedgelet.specs.Wedgelet.{points, pointX, pointY, beside, candidate, unmarked, wedgelet}
 use Rattle.pattern.proofs.PatternLaws.{mark-pattern, pattern-ext, transposed-pattern}
 use Rattle.wedgelet.proofs.LineLaws.{beside-transposed}
 
 -- ---- the complement where (0,0) is marked
-
--- a mark, inverted where the first one is set
-unfoldable pub flip : Bool → Bool → Bool
-flip true b = not b
-flip false b = b
 
 flip-self : (b : Bool) → flip b b ≡ false
 unfolding flip
@@ -46,18 +41,6 @@ transposed-unmarked n f h =
     ap (transposed n) (unmarked-pattern n f h)
     ∙ transposed-pattern n (λ x y. flip (f 0 0) (f x y))
     ∙ sym (unmarked-pattern n (λ x y. f y x) h)
-
--- the mark of (0,0) is the lowest bit
-mark-first : (n w : ℕ) → mark n w 0 0 ≡ eqb (w % 2) 1
-mark-first n w =
-    let e : 0 * n + 0 ≡ 0 = omega arith in
-    ap (λ (i : ℕ). eqb (w / 2 ^ i % 2) 1) e ∙ ap (λ (x : ℕ). eqb (x % 2) 1) (div-one w)
-
-pub unmarked-odd : (n w : ℕ) → w % 2 ≡ 1 → unmarked n w ≡ complement n w
-unmarked-odd n w h = ap (λ (b : Bool). cond b (complement n w) w) (mark-first n w ∙ eq-eqb (w % 2) 1 h)
-
-pub unmarked-even : (n w : ℕ) → (w % 2 ≡ 1 → ⊥) → unmarked n w ≡ w
-unmarked-even n w h = ap (λ (b : Bool). cond b (complement n w) w) (mark-first n w ∙ ne-eqb (w % 2) 1 h)
 
 -- ---- the points in one formula
 
@@ -148,6 +131,14 @@ pub candidate-of :
     → pattern n (beside xs ys xe ye) ≡ candidate n s e
 unfolding candidate
 candidate-of n s e p q r t = λ i. pattern n (beside (p i) (q i) (r i) (t i))
+
+-- the pattern of a candidate, from a test that marks its side without (0,0)
+pub wedgelet-by :
+    (n s e : ℕ) {xs ys xe ye : ℕ} (g : ℕ → ℕ → Bool) → 0 < n → xs ≡ pointX n s → ys ≡ pointY n s → xe ≡ pointX n e → ye ≡ pointY n e
+    → ((x y : ℕ) → g x y ≡ flip (beside xs ys xe ye 0 0) (beside xs ys xe ye x y)) → pattern n g ≡ wedgelet n s e
+unfolding wedgelet
+wedgelet-by n s e {xs} {ys} {xe} {ye} g h p q r t m =
+    pattern-ext n g _ (λ x y _ _. m x y) ∙ sym (unmarked-pattern n (beside xs ys xe ye) h) ∙ ap (unmarked n) (candidate-of n s e p q r t)
 
 pub wedgelet-lt : (n s e : ℕ) → 0 < n → wedgelet n s e < 2 ^ (n * n)
 unfolding wedgelet candidate

@@ -1,4 +1,5 @@
 -- Worked examples of the wedgelet list. Assumes nothing.
+use Prim.Native.Nat.{_-_, _^_}
 use mathlib.Core.Path.{_≡_, refl}
 use mathlib.Core.List.{[], _∷_}
 use lib.ListN.{length, take}
@@ -22,3 +23,8 @@ first-seven = refl
 count-4 : length (wedgeletList 4) ≡ 74
 unfolding bits candidate wedgelet holds keep ends starts wedgeletList
 count-4 = refl
+
+-- 16 by 16 samples: from (0,0) to (1,0), all rows but the first
+first-16 : wedgelet 16 0 1 ≡ 2 ^ 256 - 2 ^ 16
+unfolding bits candidate wedgelet
+first-16 = refl

@@ -4,7 +4,7 @@ use lib.ListN.{length, replicate}
 use Rattle.arith.proofs.CheckLaws.{lent-refused, lent-given}
 use Rattle.pattern.specs.Answer.{samplesRefusal}
 use Rattle.block.specs.Answer.{blockAnswer}
-use Rattle.block.specs.Block.{blockOf}
+use Rattle.block.specs.Block.{capacity, blockOf}
 use Rattle.pattern.proofs.AnswerLaws.{samples-fit}
 use Rattle.block.proofs.rows.block_of.Statement.{statement}
 use Rattle.block.proofs.rows.block_of.Tie as tie
@@ -16,7 +16,7 @@ returns : tie.Need-returns
 unfolding blockAnswer
 returns c =
     let a = c .before .before .before .args in
-    lent-refused (samplesRefusal (a .n) (length (a .samples .now))) (blockOf 8 (a .n) (a .samples .now)) (replicate 8 (replicate 8 0))
+    lent-refused (samplesRefusal (a .n) (length (a .samples .now))) (blockOf capacity (a .n) (a .samples .now)) (replicate capacity (replicate capacity 0))
     (λ z. c .if1 .taken (c .before .samples-refusal .ensures ∙ z))
 
 -- past the checks
@@ -34,7 +34,7 @@ unfolding blockAnswer
 returns-2 c =
     let a = c .before .before .before .before .args in
     c .rows-of .ensures
-    ∙ lent-given (samplesRefusal (a .n) (length (a .samples .now))) (blockOf 8 (a .n) (a .samples .now)) (replicate 8 (replicate 8 0)) (none (c .before))
+    ∙ lent-given (samplesRefusal (a .n) (length (a .samples .now))) (blockOf capacity (a .n) (a .samples .now)) (replicate capacity (replicate capacity 0)) (none (c .before))
 
 pub block-of-spec : {M : Type 1} → statement M
 block-of-spec = tie.close (tie.spec samples-refusal-requires returns rows-of-requires returns-2)

@@ -5,7 +5,7 @@ use native.Mathlib.Omega.{arith}
 use lib.ListN.{length, getD, length-set}
 use Rattle.arith.proofs.ListLaws.{stored, stored-all}
 use Rattle.arith.proofs.SquareLaws.{positive, column-lt, row-lt, square-le}
-use Rattle.block.specs.Block.{sample, samplesOf}
+use Rattle.block.specs.Block.{capacity, sample, samplesOf}
 use Rattle.block.proofs.rows.put_samples.Statement.{statement}
 use Rattle.block.proofs.rows.put_samples.Tie as tie
 
@@ -17,7 +17,7 @@ abbrev μ-loop : tie.MeasureT-loop
 μ-loop n samples₀ b k₀ k-end samples k = n * n - k
 
 mul-k-end : tie.Need-mul-k-end Inv-loop μ-loop
-mul-k-end c = omega (arith, square-le {m = 8} (c .pre .0))
+mul-k-end c = omega (arith, square-le {m = capacity} (c .pre .0))
 
 loop-holds : tie.Need-loop-holds Inv-loop μ-loop
 loop-holds c = (refl, omega arith, c .pre .1, λ i h. absurd (omega arith))
@@ -50,7 +50,7 @@ slice-write-samples : tie.Need-slice-write-samples Inv-loop μ-loop
 slice-write-samples c = omega arith
 
 add-k : tie.Need-add-k Inv-loop μ-loop
-add-k c = omega (arith, square-le {m = 8} (c .before .before .before .pre .0))
+add-k c = omega (arith, square-le {m = capacity} (c .before .before .before .pre .0))
 
 loop-less : tie.Need-loop-less Inv-loop μ-loop
 loop-less c = omega arith

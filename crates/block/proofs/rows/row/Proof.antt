@@ -8,17 +8,18 @@ use Rattle.arith.specs.Lists.{upto}
 use Rattle.arith.specs.Square.{place}
 use Rattle.arith.proofs.ListLaws.{upto-none, fill-by, fill-end}
 use Rattle.arith.proofs.SquareLaws.{place-lt, square-le}
+use Rattle.block.specs.Block.{capacity}
 use Rattle.block.proofs.rows.row.Statement.{statement}
 use Rattle.block.proofs.rows.row.Tie as tie
 
 abbrev Inv-loop : tie.InvT-loop
-Inv-loop n samples y r₀ x₀ r x = (x ≤ n) × (r ≡ upto 8 x (λ i. getD samples (place n i y) 0) 0)
+Inv-loop n samples y r₀ x₀ r x = (x ≤ n) × (r ≡ upto capacity x (λ i. getD samples (place n i y) 0) 0)
 
 abbrev μ-loop : tie.MeasureT-loop
 μ-loop n samples y r₀ x₀ r x = n - x
 
 loop-holds : tie.Need-loop-holds Inv-loop μ-loop
-loop-holds c = (omega arith, sym (upto-none 8 _ 0))
+loop-holds c = (omega arith, sym (upto-none capacity _ 0))
 
 mul-r : tie.Need-mul-r Inv-loop μ-loop
 mul-r c = omega (arith, place-lt (c .before .before .args .n) (c .before .loop .x) (c .before .before .args .y) (omega arith) (omega arith), square-le (c .before .before .pre .0))
@@ -39,10 +40,10 @@ loop-less : tie.Need-loop-less Inv-loop μ-loop
 loop-less c = search needs
 
 loop-again : tie.Need-loop-again Inv-loop μ-loop
-loop-again c = (search needs, fill-by 8 _ _ 0 (c .before .before .loop .inv .1) refl (omega arith))
+loop-again c = (search needs, fill-by capacity _ _ 0 (c .before .before .loop .inv .1) refl (omega arith))
 
 returns : tie.Need-returns Inv-loop μ-loop
-returns c = fill-end 8 _ _ _ 0 (c .before .loop .inv .1) (omega arith) (omega arith)
+returns c = fill-end capacity _ _ _ 0 (c .before .loop .inv .1) (omega arith) (omega arith)
 
 pub row-spec : {M : Type 1} → statement M
 row-spec =

@@ -7,18 +7,18 @@ use lib.ListN.{getD, replicate}
 use Rattle.arith.specs.Lists.{upto}
 use Rattle.arith.specs.Square.{place}
 use Rattle.arith.proofs.ListLaws.{upto-none, fill-by, fill-end}
-use Rattle.block.specs.Block.{blockBy}
+use Rattle.block.specs.Block.{capacity, blockBy}
 use Rattle.block.proofs.rows.rows_of.Statement.{statement}
 use Rattle.block.proofs.rows.rows_of.Tie as tie
 
 abbrev Inv-loop : tie.InvT-loop
-Inv-loop n samples b₀ y₀ b y = (y ≤ n) × (b ≡ upto 8 y (λ j. upto 8 n (λ i. getD samples (place n i j) 0) 0) (replicate 8 0))
+Inv-loop n samples b₀ y₀ b y = (y ≤ n) × (b ≡ upto capacity y (λ j. upto capacity n (λ i. getD samples (place n i j) 0) 0) (replicate capacity 0))
 
 abbrev μ-loop : tie.MeasureT-loop
 μ-loop n samples b₀ y₀ b y = n - y
 
 loop-holds : tie.Need-loop-holds Inv-loop μ-loop
-loop-holds c = (omega arith, sym (upto-none 8 _ (replicate 8 0)))
+loop-holds c = (omega arith, sym (upto-none capacity _ (replicate capacity 0)))
 
 row-requires : tie.Need-row-requires Inv-loop μ-loop
 row-requires c κs = search needs
@@ -37,11 +37,11 @@ loop-less c = search needs
 
 loop-again : tie.Need-loop-again Inv-loop μ-loop
 loop-again c =
-    (search needs, fill-by 8 _ _ (replicate 8 0) (c .before .before .loop .inv .1) (c .row .ensures) (omega arith))
+    (search needs, fill-by capacity _ _ (replicate capacity 0) (c .before .before .loop .inv .1) (c .row .ensures) (omega arith))
 
 returns : tie.Need-returns Inv-loop μ-loop
 unfolding blockBy
-returns c = fill-end 8 _ _ _ (replicate 8 0) (c .before .loop .inv .1) (omega arith) (omega arith)
+returns c = fill-end capacity _ _ _ (replicate capacity 0) (c .before .loop .inv .1) (omega arith) (omega arith)
 
 pub rows-of-spec : {M : Type 1} → statement M
 rows-of-spec =

@@ -1,15 +1,14 @@
--- `contour` meets its contract: the refusal, or the samples above the mean. Assumes nothing.
-use Prim.Native.Nat.{ℕ, _*_}
+-- `contour` meets its contract: the refusal, or the samples above the mean, at most 64 to a word. Assumes nothing.
 use mathlib.Core.Path.{_≡_, sym, ap, _∙_}
 use native.Mathlib.Omega.{arith}
-use lib.Dec.{ltb}
-use lib.ListN.{length, getD}
-use Rattle.arith.specs.Bits.{bits}
+use lib.ListN.{length}
 use Rattle.arith.specs.Checks.{refused, given}
 use Rattle.arith.proofs.CheckLaws.{answer-refused, answer-given}
 use Rattle.pattern.specs.Answer.{samplesRefusal, contourAnswer}
 use Rattle.pattern.specs.Contour.{contourOf}
+use Rattle.pattern.proofs.SizeLaws.{square-256}
 use Rattle.pattern.proofs.AnswerLaws.{SamplesFit, samples-fit}
+use Rattle.pattern.proofs.ContourLaws.{contour-words}
 use Rattle.pattern.proofs.contours.contour.Statement.{statement}
 use Rattle.pattern.proofs.contours.contour.Tie as tie
 
@@ -34,18 +33,101 @@ fits c = let a = c .before .before .before .args in samples-fit (a .n) (length (
 mean-requires : tie.Need-mean-requires
 mean-requires c κs = let f = fits c in (omega arith, f .high, f .square)
 
+mul-c0 : tie.Need-mul-c0
+mul-c0 c = omega (arith, square-256 (fits (c .before) .high))
+
+past-word-requires : tie.Need-past-word-requires
+past-word-requires c κs = tt
+
+past-word-requires-2 : tie.Need-past-word-requires-2
+past-word-requires-2 c κs = tt
+
+past-word-requires-3 : tie.Need-past-word-requires-3
+past-word-requires-3 c κs = tt
+
+lesser-requires : tie.Need-lesser-requires
+lesser-requires c κs = tt
+
 above-requires : tie.Need-above-requires
-above-requires c κs = let f = fits (c .before) in (omega arith, f .high, f .square)
+above-requires c κs =
+    let f = fits (c .before .before .before .before .before) in
+    (omega (arith, c .lesser .ensures), λ i l. omega (arith, l, f .square, c .lesser .ensures))
+
+lesser-requires-2 : tie.Need-lesser-requires-2
+lesser-requires-2 c κs = tt
+
+above-requires-2 : tie.Need-above-requires-2
+above-requires-2 c κs =
+    let w = c .before .before .before in
+    let f = fits (w .before .before .before .before) in
+    (omega (arith, c .lesser2 .ensures), λ i l. omega (arith, l, f .square, c .lesser2 .ensures, w .before .before .past-word .ensures))
+
+lesser-requires-3 : tie.Need-lesser-requires-3
+lesser-requires-3 c κs = tt
+
+above-requires-3 : tie.Need-above-requires-3
+above-requires-3 c κs =
+    let w = c .before .before .before .before .before in
+    let f = fits (w .before .before .before .before) in (
+      omega (arith, c .lesser3 .ensures),
+      λ i l. omega (arith, l, f .square, c .lesser3 .ensures, w .before .before .past-word .ensures, w .before .past-word2 .ensures),
+    )
+
+lesser-requires-4 : tie.Need-lesser-requires-4
+lesser-requires-4 c κs = tt
+
+above-requires-4 : tie.Need-above-requires-4
+above-requires-4 c κs =
+    let w = c .before .before .before .before .before .before .before in
+    let f = fits (w .before .before .before .before) in (
+      omega (arith, c .lesser4 .ensures),
+      λ i l.
+          omega (
+            arith,
+            l,
+            f .square,
+            c .lesser4 .ensures,
+            w .before .before .past-word .ensures,
+            w .before .past-word2 .ensures,
+            w .past-word3 .ensures,
+          ),
+    )
 
 returns-2 : tie.Need-returns-2
-unfolding contourAnswer contourOf
+unfolding contourAnswer
 returns-2 c =
-    let d = c .before .before in
+    let d4 = c .before in
+    let d3 = d4 .before .before in
+    let d2 = d3 .before .before in
+    let d1 = d2 .before .before in
+    let w = d1 .before in
+    let b = w .before .before .before in
+    let d = b .before in
     let t = d .before .before .before .args .texture .now in
     let n = d .before .before .before .args .n in
-    ap given (c .above .ensures ∙ ap (λ (h : ℕ). bits (λ i. ltb h (getD t i 0)) (n * n)) (c .before .mean .ensures))
+    ap given
+    (contour-words n t (fits d .high) (b .mean .ensures) (w .before .before .past-word .ensures) (w .before .past-word2 .ensures) (w .past-word3 .ensures)
+    (d1 .lesser .ensures) (d2 .lesser2 .ensures) (d3 .lesser3 .ensures) (d4 .lesser4 .ensures)
+    (d2 .before .above .ensures) (d3 .before .above2 .ensures) (d4 .before .above3 .ensures) (c .above4 .ensures))
     ∙ answer-given (samplesRefusal n (length t)) (contourOf n t) (none d)
 
 pub contour-spec : {M : Type 1} → statement M
 contour-spec =
-    tie.close (tie.spec samples-refusal-requires returns mean-requires above-requires returns-2)
+    tie.close
+    (tie.spec
+    samples-refusal-requires
+    returns
+    mean-requires
+    mul-c0
+    past-word-requires
+    past-word-requires-2
+    past-word-requires-3
+    lesser-requires
+    above-requires
+    lesser-requires-2
+    above-requires-2
+    lesser-requires-3
+    above-requires-3
+    lesser-requires-4
+    above-requires-4
+    returns-2)

@@ -6,7 +6,7 @@ use native.Mathlib.Omega.{arith}
 use lib.ListN.{getD}
 use Rattle.arith.specs.Sum.{sumTo}
 use Rattle.pattern.specs.Contour.{threshold}
-use Rattle.pattern.proofs.SizeLaws.{square-64, one-le-square}
+use Rattle.pattern.proofs.SizeLaws.{square-256, one-le-square}
 use Rattle.arith.proofs.Sums.{sum-more}
 use Rattle.pattern.proofs.contours.mean.Statement.{statement}
 use Rattle.pattern.proofs.contours.mean.Tie as tie
@@ -18,7 +18,7 @@ abbrev μ-loop : tie.MeasureT-loop
 μ-loop n texture sum₀ i₀ i-end sum i = n * n - i
 
 mul-i-end : tie.Need-mul-i-end Inv-loop μ-loop
-mul-i-end c = omega (arith, square-64 (c .before .pre .1))
+mul-i-end c = omega (arith, square-256 (c .before .pre .1))
 
 loop-holds : tie.Need-loop-holds Inv-loop μ-loop
 unfolding sumTo
@@ -31,10 +31,10 @@ wide-requires : tie.Need-wide-requires Inv-loop μ-loop
 wide-requires c κs = tt
 
 add-sum : tie.Need-add-sum Inv-loop μ-loop
-add-sum c = omega (arith, square-64 (c .before .before .before .before .before .pre .1))
+add-sum c = omega (arith, square-256 (c .before .before .before .before .before .pre .1))
 
 add-i : tie.Need-add-i Inv-loop μ-loop
-add-i c = omega (arith, square-64 (c .before .before .before .before .before .pre .1))
+add-i c = omega (arith, square-256 (c .before .before .before .before .before .pre .1))
 
 loop-less : tie.Need-loop-less Inv-loop μ-loop
 loop-less c = omega arith
@@ -49,7 +49,7 @@ loop-again c =
     )
 
 mul-result : tie.Need-mul-result Inv-loop μ-loop
-mul-result c = omega (arith, square-64 (c .before .before .before .pre .1))
+mul-result c = omega (arith, square-256 (c .before .before .before .pre .1))
 
 div-result : tie.Need-div-result Inv-loop μ-loop
 div-result c = omega (arith, one-le-square (c .before .before .before .pre .0))

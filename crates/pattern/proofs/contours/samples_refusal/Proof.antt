@@ -5,7 +5,7 @@ use native.Mathlib.Omega.{arith}
 use borrow.Author.Tests.{not-true, not-false, eq-eqb, ne-eqb}
 use Rattle.pattern.specs.Size.{sizeOk}
 use Rattle.pattern.specs.Answer.{samplesRefusal}
-use Rattle.pattern.proofs.SizeLaws.{size-bounds, square-64}
+use Rattle.pattern.proofs.SizeLaws.{size-bounds, square-256}
 use Rattle.pattern.proofs.contours.samples_refusal.Statement.{statement}
 use Rattle.pattern.proofs.contours.samples_refusal.Tie as tie
 
@@ -24,7 +24,7 @@ good c = sym (c .before .size-ok .ensures) ∙ not-false _ (c .if1 .left)
 mul-if2 : tie.Need-mul-if2
 mul-if2 c =
     let n = c .before .before .args .n in
-    omega (arith, square-64 {n = n} (size-bounds n (good c) .1))
+    omega (arith, square-256 {n = n} (size-bounds n (good c) .1))
 
 returns-2 : tie.Need-returns-2
 unfolding samplesRefusal

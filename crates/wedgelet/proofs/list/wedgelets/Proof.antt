@@ -1,4 +1,5 @@
 -- `wedgelets` meets its contract: the refusal with the slice as it was, or the list in the front of the slice. Assumes nothing.
+use Prim.Native.Nat.{_*_}
 use mathlib.Core.List.{_++_}
 use mathlib.Core.Path.{_≡_, sym, ap, _∙_}
 use native.Mathlib.Omega.{arith}
@@ -6,6 +7,7 @@ use borrow.Author.Needs.{needs}
 use lib.ListN.{length, drop}
 use Rattle.arith.specs.Checks.{refused, given}
 use Rattle.arith.proofs.CheckLaws.{answer-refused, answer-given, lent-refused, lent-given}
+use Rattle.pattern.specs.Words.{wordsOf, wordList}
 use Rattle.wedgelet.specs.Wedgelet.{wedgeletList}
 use Rattle.wedgelet.specs.Answer.{listRefusal, listAnswer, listAfter}
 use Rattle.wedgelet.proofs.AnswerLaws.{list-fits}
@@ -22,7 +24,7 @@ returns c =
     let r = listRefusal (a .n) (length (a .list .now)) in
     let e = c .before .list-refusal .ensures in (
       ap refused e ∙ answer-refused r (length (wedgeletList (a .n))) (λ z. c .if1 .taken (e ∙ z)),
-      lent-refused r (wedgeletList (a .n) ++ drop (length (wedgeletList (a .n))) (a .list .now)) (a .list .now) (λ z. c .if1 .taken (e ∙ z)),
+      lent-refused r (wordList (a .n) (wedgeletList (a .n)) ++ drop (wordsOf (a .n) * length (wedgeletList (a .n))) (a .list .now)) (a .list .now) (λ z. c .if1 .taken (e ∙ z)),
     )
 
 -- past the checks
@@ -33,7 +35,7 @@ fill-requires : tie.Need-fill-requires
 fill-requires c κs =
     let a = c .before .before .before .before .args in
     let f = list-fits (a .n) (length (a .list .now)) (none (c .before)) in
-    (omega arith, f .high, f .room)
+    (omega arith, f .cases, f .room)
 
 same-length : tie.Need-same-length
 same-length c = search needs
@@ -46,7 +48,7 @@ returns-2 c =
     let r = listRefusal (a .n) (length (a .list .now)) in
     let f = c .before .before .fill .ensures in (
       ap given (f .0) ∙ answer-given r (length (wedgeletList (a .n))) (none d),
-      f .1 ∙ lent-given r (wedgeletList (a .n) ++ drop (length (wedgeletList (a .n))) (a .list .now)) (a .list .now) (none d),
+      f .1 ∙ lent-given r (wordList (a .n) (wedgeletList (a .n)) ++ drop (wordsOf (a .n) * length (wedgeletList (a .n))) (a .list .now)) (a .list .now) (none d),
     )
 
 pub wedgelets-spec : {M : Type 1} → statement M
