@@ -13,7 +13,7 @@ use Rattle.arith.proofs.Bools.{both-of, either-of, clash}
 use Rattle.arith.proofs.CheckLaws.{passed}
 use Rattle.arith.proofs.LeastLaws.{last-or-below}
 use Rattle.depth_table.specs.Table.{tableOk}
-use Rattle.pattern.specs.Size.{sizeOk, wordOk}
+use Rattle.pattern.specs.Size.{greatestSize, sizeOk, wordOk}
 use Rattle.pattern.proofs.SizeLaws.{size-bounds}
 use Rattle.choice_checks.specs.Case.{Case}
 use Rattle.pattern.specs.Answer.{textured}
@@ -89,7 +89,7 @@ words-bad n list k i l e = go (wordsOk n list k) refl
 pub record Accepted (C : Case) : Type 0 where
   pub size : sizeOk (C .n) ≡ true
   pub low : 4 ≤ C .n
-  pub high : C .n ≤ 8
+  pub high : C .n ≤ greatestSize
   pub lengths : Lengths (C .n) (length (C .list)) (C .count) (length (C .neighbours)) (length (C .original)) (length (C .texture))
   pub sound : tableOk (C .table) ≡ true
   pub words : wordsOk (C .n) (C .list) (C .count) ≡ true
@@ -139,7 +139,7 @@ unless-by : (k : ℕ) {a b : Bool} {r s : ℕ} → a ≡ b → r ≡ s → unles
 unless-by k p q = ap₂ (λ (x : Bool) (y : ℕ). unless x k y) p q
 
 module _ (C : Case) where
-  abbrev allLengths : Bool
+  abbrev pub allLengths : Bool
   allLengths = lengthsOk (C .n) (length (C .list)) (C .count) (length (C .neighbours)) (length (C .original)) (length (C .texture))
 
   pub refused-size : sizeOk (C .n) ≡ false → 1 ≡ chooseRefusal C

@@ -3,8 +3,9 @@ ghost use mathlib.Core.Path.{_≡_};
 ghost use mathlib.Core.Bool.{_||_};
 ghost use Prim.Native.Nat.{_*_, _≤_};
 ghost use lib.Dec.{ltb};
-ghost use lib.ListN.{length};
+ghost use Rattle.pattern.specs.Size.{greatestSize};
 ghost use Rattle.pattern.specs.Answer.{textureOk};
+ghost use Rattle.pattern.specs.Words.{patternsOf};
 ghost use Rattle.choice_checks.specs.Case.{caseOf};
 ghost use Rattle.choice_checks.specs.Refusal.{lengthsOk, wordsOk, chooseRefusal};
 use pattern::check;
@@ -12,7 +13,7 @@ use pattern::count_ok;
 
 // Whether a texture is empty or has n * n samples.
 fn texture_ok(n: usize, texture: usize) -> bool
-    requires { ⌜ n ≤ 8 ⌝ }
+    requires { ⌜ n ≤ greatestSize ⌝ }
     ensures { λ r. ⌜ r ≡ textureOk texture (n * n) ⌝ }
 {
     if texture == 0 {
@@ -24,14 +25,14 @@ fn texture_ok(n: usize, texture: usize) -> bool
 // Whether neighbours, original and texture have their lengths, and the count is allowed.
 fn lengths_ok(
     n: usize,
-    words: usize,
+    patterns: usize,
     count: usize,
     neighbours: usize,
     samples: usize,
     texture: usize,
 ) -> bool
-    requires { ⌜ n ≤ 8 ⌝ }
-    ensures { λ r. ⌜ r ≡ lengthsOk n words count neighbours samples texture ⌝ }
+    requires { ⌜ n ≤ greatestSize ⌝ }
+    ensures { λ r. ⌜ r ≡ lengthsOk n patterns count neighbours samples texture ⌝ }
 {
     if neighbours != 4 * n {
         return false;
@@ -42,16 +43,15 @@ fn lengths_ok(
     if !texture_ok(n, texture) {
         return false;
     }
-    count_ok(words, count)
+    count_ok(patterns, count)
 }
 
-// Whether every word below the count marks samples of the block only.
+// Whether every pattern below the count marks samples of the block only.
 fn words_ok(n: usize, list: &[u64], count: usize) -> bool
-    requires { ⌜ count ≤ length (now list) ⌝ }
-    ensures { λ r. ⌜ r ≡ wordsOk n (now (list .entry)) count ⌝ }
+    ensures { λ r. ⌜ r ≡ wordsOk n (patternsOf n (now (list .entry))) count ⌝ }
 {
     for k in 0..count {
-        if !pattern::word_ok(n, list[k]) {
+        if !pattern::word_ok(n, pattern::pattern_at(n, list, k)) {
             return false;
         }
     }
@@ -79,14 +79,16 @@ pub fn choose_refusal(
     reach: u32,
     texture: &[u8],
 ) -> u8
-    ensures { λ r. ⌜ r ≡ chooseRefusal (caseOf n (now (list .entry)) count (now (border .entry)) (now (original .entry)) (now (table .entry)) reach (now (texture .entry))) ⌝ }
+    ensures { λ r. ⌜ r ≡ chooseRefusal
+        (caseOf n (patternsOf n (now (list .entry))) count (now (border .entry)) (now (original .entry))
+        (now (table .entry)) reach (now (texture .entry))) ⌝ }
 {
     if !pattern::size_ok(n) {
         return 1;
     }
     if !lengths_ok(
         n,
-        list.len(),
+        pattern::whole_patterns(n, list.len()),
         count,
         border.len(),
         original.len(),

@@ -1,6 +1,6 @@
 -- What holds where no check of `predict` fails. Assumes nothing.
 use Prim.Native.Nat.{ℕ, _*_, _^_, _≤_, _<_}
-use mathlib.Core.Path.{_≡_, sym, ap₂, _∙_}
+use mathlib.Core.Path.{_≡_, sym, ap, ap₂, _∙_}
 use mathlib.Core.Bool.{true}
 use mathlib.Core.List.{List}
 use lib.Count.{ones}
@@ -9,12 +9,12 @@ use lib.IntN.{ℤ}
 use lib.ListN.{length}
 use borrow.Author.Tests.{eqb-true, ltb-true, lt-ltb}
 use Rattle.arith.specs.Bits.{bit, testBit}
-use Rattle.arith.specs.Checks.{refused, given}
+use Rattle.arith.specs.Checks.{Answer, refused, given}
 use Rattle.arith.specs.Sum.{sumTo}
 use Rattle.arith.proofs.Bools.{both-of}
 use Rattle.arith.proofs.CheckLaws.{passed, answer-refused, lent-refused, given-means}
 use Rattle.depth_table.specs.Table.{tableOk}
-use Rattle.pattern.specs.Size.{sizeOk, wordOk}
+use Rattle.pattern.specs.Size.{greatestSize, sizeOk, wordOk}
 use Rattle.pattern.proofs.PatternLaws.{marks-counted}
 use Rattle.pattern.proofs.SizeLaws.{size-bounds}
 use Rattle.sides.specs.Answer.{sidesRefusal}
@@ -27,6 +27,14 @@ pub offsets-read :
     (n w neighbours : ℕ) (t : List ℕ) (samples : ℕ) {number : ℕ} {off0 off1 y z : ℤ}
     → y ≡ off0 → z ≡ off1 → number ≡ predictRefusal n w neighbours t y z samples → number ≡ predictRefusal n w neighbours t off0 off1 samples
 offsets-read n w neighbours t samples e f p = p ∙ ap₂ (λ (x y : ℤ). predictRefusal n w neighbours t x y samples) e f
+
+-- answer and block by an equal pattern
+pub predicts-as :
+    (n : ℕ) (s t : List ℕ) (off0 off1 : ℤ) (held : List ℕ) {w w′ : ℕ} {new : List ℕ} {r : Answer ℕ} → w ≡ w′
+    → (r ≡ predictAnswer n w s t off0 off1 (length held)) × (new ≡ predictBlock n w s t off0 off1 held)
+    → (r ≡ predictAnswer n w′ s t off0 off1 (length held)) × (new ≡ predictBlock n w′ s t off0 off1 held)
+predicts-as n s t off0 off1 held e p =
+    (p .0 ∙ ap (λ (x : ℕ). predictAnswer n x s t off0 off1 (length held)) e, p .1 ∙ ap (λ (x : ℕ). predictBlock n x s t off0 off1 held) e)
 
 -- where a check fails, its number is answered and the lent block stays as it was
 pub refusal-leaves :
@@ -42,7 +50,7 @@ refusal-leaves n w s t held p e f h =
 pub record PredictAccepted (n w neighbours : ℕ) (t : List ℕ) (off0 off1 : ℤ) (samples : ℕ) : Type 0 where
   pub size : sizeOk n ≡ true
   pub low : 4 ≤ n
-  pub high : n ≤ 8
+  pub high : n ≤ greatestSize
   pub long : neighbours ≡ 4 * n
   pub full : samples ≡ n * n
   pub sound : tableOk t ≡ true

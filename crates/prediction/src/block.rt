@@ -7,8 +7,11 @@ ghost use Rattle.arith.specs.Bits.{testBit};
 ghost use Rattle.arith.specs.Lists.{listOf};
 ghost use Rattle.sides.specs.Answer.{sidesRefusal};
 ghost use Rattle.prediction.specs.Block.{sampleOf};
+ghost use Rattle.pattern.specs.Size.{greatestSize};
+ghost use Rattle.pattern.specs.Words.{patternNumber, usedNumber};
 ghost use Rattle.prediction.specs.Answer.{lengthsOk, predictRefusal, predictAnswer, predictBlock, predictTold};
 use crate::Predicted;
+use pattern::Pattern;
 use pattern::check;
 
 // a where m holds, else b.
@@ -19,12 +22,12 @@ fn pick(m: bool, a: u8, b: u8) -> u8
 }
 
 // Each sample takes v1 where it is marked, v0 where not.
-fn paint(word: u64, v1: u8, v0: u8, block: &mut [u8])
-    ensures { λ _. ⌜ now (block .exit) ≡ listOf (λ k. cond (testBit word k) v1 v0) (length (now (block .entry))) ⌝ }
+fn paint(p: Pattern, v1: u8, v0: u8, block: &mut [u8])
+    ensures { λ _. ⌜ now (block .exit) ≡ listOf (λ k. cond (testBit (patternNumber p) k) v1 v0) (length (now (block .entry))) ⌝ }
 {
     let mut k: usize = 0;
     while k < block.len() {
-        let v = pick(pattern::mark_at(word, k), v1, v0);
+        let v = pick(pattern::mark_at(p, k), v1, v0);
         block[k] = v;
         k += 1;
     }
@@ -32,7 +35,7 @@ fn paint(word: u64, v1: u8, v0: u8, block: &mut [u8])
 
 // Whether there are 4n neighbours, and n * n samples in the block.
 fn lengths_ok(n: usize, neighbours: usize, samples: usize) -> bool
-    requires { ⌜ n ≤ 8 ⌝ }
+    requires { ⌜ n ≤ greatestSize ⌝ }
     ensures { λ r. ⌜ r ≡ lengthsOk n neighbours samples ⌝ }
 {
     if neighbours != 4 * n {
@@ -44,21 +47,21 @@ fn lengths_ok(n: usize, neighbours: usize, samples: usize) -> bool
 // The number of the first check of `predict` that fails, 0 for none.
 fn predict_refusal(
     n: usize,
-    word: u64,
+    p: Pattern,
     neighbours: usize,
     table: &[u8],
     off0: i32,
     off1: i32,
     samples: usize,
 ) -> u8
-    ensures { λ r. ⌜ r ≡ predictRefusal n word neighbours (now (table .entry)) off0 off1 samples ⌝ }
+    ensures { λ r. ⌜ r ≡ predictRefusal n (patternNumber p) neighbours (now (table .entry)) off0 off1 samples ⌝ }
 {
     if !pattern::size_ok(n) {
         return 1;
     }
     let lengths = lengths_ok(n, neighbours, samples);
     let sound = depth_table::is_table(table);
-    let inside = pattern::word_ok(n, word);
+    let inside = pattern::word_ok(n, p);
     let offset0 = offset::offset_ok(off0);
     let offset1 = offset::offset_ok(off1);
     let later = check(inside, 5, check(offset0, 4, check(offset1, 4, 0)));
@@ -66,11 +69,11 @@ fn predict_refusal(
 }
 
 // The value of the samples with the mark m: off1 goes to marked samples, off0 to unmarked ones.
-fn value_of(n: usize, word: u64, border: &[u8], table: &[u8], m: bool, off0: i32, off1: i32) -> u8
-    requires { ⌜ sidesRefusal n word (now border) ≡ 0 ⌝ }
-    ensures { λ r. ⌜ r ≡ sampleOf n word (now (border .entry)) (now (table .entry)) off0 off1 m ⌝ }
+fn value_of(n: usize, p: Pattern, border: &[u8], table: &[u8], m: bool, off0: i32, off1: i32) -> u8
+    requires { ⌜ sidesRefusal n (patternNumber p) (now border) ≡ 0 ⌝ }
+    ensures { λ r. ⌜ r ≡ sampleOf n (patternNumber p) (now (border .entry)) (now (table .entry)) off0 off1 m ⌝ }
 {
-    let d = sides::side_depth(n, word, border, m);
+    let d = sides::side_depth(n, p, border, m);
     if m {
         return offset::level(table, d, off1);
     }
@@ -78,25 +81,29 @@ fn value_of(n: usize, word: u64, border: &[u8], table: &[u8], m: bool, off0: i32
 }
 
 // Writes the predicted block of n * n samples and answers the number of marks, or refuses with 1, 2, 3, 5 or 4 and writes nothing.
+// Up to 8 by 8 the pattern is the first word of p; the others are not read.
 pub fn predict(
     n: usize,
-    word: u64,
+    p: Pattern,
     border: &[u8],
     table: &[u8],
     off0: i32,
     off1: i32,
     block: &mut [u8],
 ) -> Predicted
-    ensures answered { λ r. ⌜ predictTold r ≡ predictAnswer n word (now (border .entry)) (now (table .entry)) off0 off1 (length (now (block .entry))) ⌝ }
-    ensures written { λ r. ⌜ now (block .exit) ≡ predictBlock n word (now (border .entry)) (now (table .entry)) off0 off1 (now (block .entry)) ⌝ }
+    ensures answered { λ r. ⌜ predictTold r
+        ≡ predictAnswer n (usedNumber n p) (now (border .entry)) (now (table .entry)) off0 off1 (length (now (block .entry))) ⌝ }
+    ensures written { λ r. ⌜ now (block .exit)
+        ≡ predictBlock n (usedNumber n p) (now (border .entry)) (now (table .entry)) off0 off1 (now (block .entry)) ⌝ }
 {
-    let refusal = predict_refusal(n, word, border.len(), table, off0, off1, block.len());
+    let q = pattern::used_words(n, p);
+    let refusal = predict_refusal(n, q, border.len(), table, off0, off1, block.len());
     if refusal != 0 {
         return Predicted::Refused(refusal);
     }
-    let m = pattern::mark_at(word, 0);
-    let a = value_of(n, word, border, table, m, off0, off1);
-    let b = value_of(n, word, border, table, !m, off0, off1);
-    paint(word, pick(m, a, b), pick(m, b, a), block);
-    Predicted::Marks(u64::count_ones(word))
+    let m = pattern::mark_at(q, 0);
+    let a = value_of(n, q, border, table, m, off0, off1);
+    let b = value_of(n, q, border, table, !m, off0, off1);
+    paint(q, pick(m, a, b), pick(m, b, a), block);
+    Predicted::Marks(pattern::marks(q))
 }

@@ -8,7 +8,8 @@ use lib.ListN.{length, getD, take}
 use lib.Seq.{length-take-le, getD-take, ext-getD}
 use Rattle.arith.specs.Lists.{listOf, upto}
 use Rattle.arith.proofs.ListLaws.{length-listOf, listOf-at, length-upto, upto-at, upto-ext}
-use Rattle.pattern.proofs.SizeLaws.{square-64}
+use Rattle.pattern.specs.Size.{greatestSamples}
+use Rattle.pattern.proofs.SizeLaws.{square-256}
 use Rattle.sheet_blocks.specs.Grid.{blockX, blockY, liesIn}
 use Rattle.sheet_blocks.specs.Samples.{written, cut}
 use Rattle.sheet_blocks.specs.Answer.{filled, cutAnswer, putAfter}
@@ -45,8 +46,8 @@ module _ (n w k : ℕ) (s : List ℕ) (inside : liesIn n w k (length s) ≡ true
   unfolding cutAnswer
   cut-first =
       rw inside
-      (take-filled 64 (n * n) (cut n w (blockX n w k) (blockY n w k) s) (length-cut n w (blockX n w k) (blockY n w k) s)
-      (square-64 (lies n w k (length s) inside .high)))
+      (take-filled greatestSamples (n * n) (cut n w (blockX n w k) (blockY n w k) s) (length-cut n w (blockX n w k) (blockY n w k) s)
+      (square-256 (lies n w k (length s) inside .high)))
 
   -- the block is written, and only the array's first n * n samples count
   pub put-written :

@@ -9,7 +9,7 @@ use lib.Arith.{digits-lt}
 use lib.Dec.{leb}
 use Rattle.arith.specs.Square.{place}
 use Rattle.arith.proofs.Bools.{both-of}
-use Rattle.pattern.specs.Size.{sizeOk}
+use Rattle.pattern.specs.Size.{greatestSize, sizeOk}
 use Rattle.pattern.proofs.SizeLaws.{size-bounds}
 use Rattle.sheet_blocks.specs.Grid.{longest, blocks, blockX, blockY, Inside, liesIn}
 
@@ -47,7 +47,7 @@ block-inside n w h k a b l =
 -- what `liesIn` says
 pub record Lies (n w k samples : ℕ) : Type 0 where
   pub low : 4 ≤ n
-  pub high : n ≤ 8
+  pub high : n ≤ greatestSize
   pub wide : n ≤ w
   pub inside : Inside n w samples (blockX n w k) (blockY n w k)
 
@@ -108,13 +108,13 @@ area-fits {a} {b} ha hb =
     omega arith
 
 -- the row past a block, for a block number of 32 bits
-pub rows-fit : (n w k : ℕ) → n ≤ 8 → k < 2 ^ 32 → blockY n w k + n ≤ 2 ^ 35
+pub rows-fit : (n w k : ℕ) → n ≤ greatestSize → k < 2 ^ 32 → blockY n w k + n ≤ 2 ^ 36
 rows-fit n w k hn hk =
-    let l : blockY n w k ≤ (2 ^ 32 - 1) * 8 = mul-le-mul {n₁ = k / (w / n)} {m₁ = n} {n₂ = 2 ^ 32 - 1} {m₂ = 8} (omega (arith, div-le-self k (w / n))) hn in
+    let l : blockY n w k ≤ (2 ^ 32 - 1) * greatestSize = mul-le-mul {n₁ = k / (w / n)} {m₁ = n} {n₂ = 2 ^ 32 - 1} {m₂ = greatestSize} (omega (arith, div-le-self k (w / n))) hn in
     omega arith
 
 -- and the samples up to it
-pub samples-fit : (n w k : ℕ) → n ≤ 8 → w ≤ longest → k < 2 ^ 32 → (blockY n w k + n) * w ≤ 2 ^ 42
+pub samples-fit : (n w k : ℕ) → n ≤ greatestSize → w ≤ longest → k < 2 ^ 32 → (blockY n w k + n) * w ≤ 2 ^ 43
 samples-fit n w k hn hw hk =
-    let l = mul-le-mul {n₁ = blockY n w k + n} {m₁ = w} {n₂ = 2 ^ 35} {m₂ = 128} (rows-fit n w k hn hk) hw in
+    let l = mul-le-mul {n₁ = blockY n w k + n} {m₁ = w} {n₂ = 2 ^ 36} {m₂ = 128} (rows-fit n w k hn hk) hw in
     omega arith

@@ -5,9 +5,9 @@ ghost use Rattle.sheet_blocks.specs.Answer.{cutAnswer, putAfter};
 use crate::grid::block_x;
 use crate::grid::block_y;
 use crate::grid::lies_inside;
-use crate::samples::SAMPLES;
 use crate::samples::cut_at;
 use crate::samples::write_at;
+use pattern::SAMPLES;
 
 // The n * n samples of block k, row by row, then 0; all 0 where the block does not lie inside the samples.
 pub fn cut(samples: &[u8], n: u32, width: u32, k: u32) -> [u8; SAMPLES]

@@ -8,4 +8,3 @@ pub use blocks::put;
 pub use grid::block_x;
 pub use grid::block_y;
 pub use grid::lies_inside;
-pub use samples::SAMPLES;

@@ -2,12 +2,11 @@
 ghost use mathlib.Core.Path.{_≡_};
 ghost use Prim.Native.Nat.{_*_, _≤_};
 ghost use lib.ListN.{length};
+ghost use Rattle.pattern.specs.Size.{greatestSize, greatestSamples};
 ghost use Rattle.sheet_blocks.specs.Grid.{Inside};
 ghost use Rattle.sheet_blocks.specs.Samples.{written, cut};
 ghost use Rattle.sheet_blocks.specs.Answer.{filled};
-
-// The samples of the greatest block.
-pub const SAMPLES: usize = 64;
+use pattern::SAMPLES;
 
 // Writes the first n * n samples of a block, row by row, at (x, y) of a sheet of the given width.
 pub(crate) fn write_at(samples: &mut [u8], width: usize, n: usize, x: usize, y: usize, block: &[u8])
@@ -21,8 +20,8 @@ pub(crate) fn write_at(samples: &mut [u8], width: usize, n: usize, x: usize, y: 
 
 // The block at (x, y) of a sheet of the given width: n * n samples, row by row, then 0.
 pub(crate) fn cut_at(samples: &[u8], width: usize, n: usize, x: usize, y: usize) -> [u8; SAMPLES]
-    requires { ⌜ (Inside n width (length (now samples)) x y) × (n ≤ 8) ⌝ }
-    ensures { λ r. ⌜ r ≡ filled 64 (n * n) (cut n width x y (now (samples .entry))) ⌝ }
+    requires { ⌜ (Inside n width (length (now samples)) x y) × (n ≤ greatestSize) ⌝ }
+    ensures { λ r. ⌜ r ≡ filled greatestSamples (n * n) (cut n width x y (now (samples .entry))) ⌝ }
 {
     let mut block = [0u8; SAMPLES];
     for k in 0..n * n {

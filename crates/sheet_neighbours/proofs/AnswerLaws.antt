@@ -6,6 +6,7 @@ use mathlib.Core.List.{List}
 use native.Mathlib.Omega.{arith}
 use lib.ListN.{length, take}
 use Rattle.arith.proofs.ListLaws.{length-listOf}
+use Rattle.pattern.specs.Size.{greatestNeighbours}
 use Rattle.sheet_blocks.specs.Grid.{liesIn}
 use Rattle.sheet_blocks.proofs.GridLaws.{lies}
 use Rattle.sheet_blocks.proofs.AnswerLaws.{take-filled}
@@ -21,4 +22,4 @@ length-neighbours n w k s = length-listOf _ (4 * n)
 pub neighbours-first : (n w k : ℕ) (s : List ℕ) → liesIn n w k (length s) ≡ true → take (4 * n) (neighboursAnswer n w k s) ≡ neighbours n w k s
 unfolding neighboursAnswer
 neighbours-first n w k s inside =
-    rw inside (take-filled 32 (4 * n) (neighbours n w k s) (length-neighbours n w k s) (omega (arith, lies n w k (length s) inside .high)))
+    rw inside (take-filled greatestNeighbours (4 * n) (neighbours n w k s) (length-neighbours n w k s) (omega (arith, lies n w k (length s) inside .high)))

@@ -3,18 +3,17 @@ ghost use mathlib.Core.Path.{_≡_};
 ghost use Prim.Native.Nat.{_*_, _<_, _≤_};
 ghost use lib.ListN.{length, getD};
 ghost use Rattle.arith.specs.Square.{place};
+ghost use Rattle.pattern.specs.Size.{greatestSize, greatestNeighbours};
 ghost use Rattle.sheet_neighbours.specs.Neighbours.{readFrom};
 ghost use Rattle.sheet_neighbours.specs.Counts.{RunsInside, leftCount, aboveCount, topCount};
 ghost use Rattle.sheet_neighbours.specs.Counts.{countedLeft, countedTop, countedAt, counted};
 ghost use Rattle.sheet_blocks.specs.Answer.{filled};
 ghost use Rattle.sheet_neighbours.specs.Answer.{neighboursAnswer};
+use pattern::NEIGHBOURS;
 use pattern::lesser;
 use sheet_blocks::block_x;
 use sheet_blocks::block_y;
 use sheet_blocks::lies_inside;
-
-// The neighbours of the greatest block.
-pub const NEIGHBOURS: usize = 32;
 
 // The sample in a column and a row of a sheet of the given width.
 fn read_at(samples: &[u8], width: usize, column: usize, row: usize) -> u8
@@ -26,7 +25,7 @@ fn read_at(samples: &[u8], width: usize, column: usize, row: usize) -> u8
 
 // The samples present in the top run of a block with a row above: 2n, and n at the sheet's right edge.
 fn above_count(width: usize, n: usize, x: usize) -> usize
-    requires { ⌜ (n ≤ 8) × (x ≤ width) ⌝ }
+    requires { ⌜ (n ≤ greatestSize) × (x ≤ width) ⌝ }
     ensures { λ r. ⌜ r ≡ aboveCount n width x ⌝ }
 {
     if 2 * n <= width - x { 2 * n } else { n }
@@ -41,7 +40,7 @@ fn left_count(n: usize, x: usize) -> usize
 
 // And in its top run: none where there is no row above.
 fn top_count(width: usize, n: usize, x: usize, y: usize) -> usize
-    requires { ⌜ (n ≤ 8) × (x ≤ width) ⌝ }
+    requires { ⌜ (n ≤ greatestSize) × (x ≤ width) ⌝ }
     ensures { λ r. ⌜ r ≡ topCount n width x y ⌝ }
 {
     if 0 < y { above_count(width, n, x) } else { 0 }
@@ -88,7 +87,7 @@ fn neighbour(
     t: usize,
     i: usize,
 ) -> u8
-    requires { ⌜ (RunsInside width (length (now samples)) x y l t) × (n ≤ 8) ⌝ }
+    requires { ⌜ (RunsInside width (length (now samples)) x y l t) × (n ≤ greatestSize) ⌝ }
     ensures { λ r. ⌜ r ≡ readFrom (now (samples .entry)) (countedAt n width x y l t i) ⌝ }
 {
     if i < 2 * n {
@@ -108,8 +107,8 @@ fn neighbours_at(
     l: usize,
     t: usize,
 ) -> [u8; NEIGHBOURS]
-    requires { ⌜ (RunsInside width (length (now samples)) x y l t) × (n ≤ 8) ⌝ }
-    ensures { λ r. ⌜ r ≡ filled 32 (4 * n) (counted n width x y l t (now (samples .entry))) ⌝ }
+    requires { ⌜ (RunsInside width (length (now samples)) x y l t) × (n ≤ greatestSize) ⌝ }
+    ensures { λ r. ⌜ r ≡ filled greatestNeighbours (4 * n) (counted n width x y l t (now (samples .entry))) ⌝ }
 {
     let mut near = [0u8; NEIGHBOURS];
     for i in 0..4 * n {

@@ -8,7 +8,7 @@ use lib.Dec.{eqb}
 use lib.ListN.{length}
 use borrow.Author.Tests.{eqb-true, eq-eqb, ltb-true}
 use Rattle.arith.proofs.CheckLaws.{passed}
-use Rattle.pattern.specs.Size.{sizeOk, wordOk}
+use Rattle.pattern.specs.Size.{greatestSize, sizeOk, wordOk}
 use Rattle.pattern.proofs.SizeLaws.{size-bounds}
 use Rattle.sides.specs.Answer.{sidesRefusal}
 
@@ -16,7 +16,7 @@ use Rattle.sides.specs.Answer.{sidesRefusal}
 pub record SidesAccepted (n w : ℕ) (s : List ℕ) : Type 0 where
   pub size : sizeOk n ≡ true
   pub low : 4 ≤ n
-  pub high : n ≤ 8
+  pub high : n ≤ greatestSize
   pub long : length s ≡ 4 * n
   pub inside : w < 2 ^ (n * n)
 
@@ -30,7 +30,7 @@ sides-accepted n w s h =
     record { size = p₁ .0; low = b .0; high = b .1; long = eqb-true _ _ (p₂ .0); inside = ltb-true w (2 ^ (n * n)) (p₃ .0) }
 
 -- the bounds that the code works within
-pub sides-bounds : (n w : ℕ) (s : List ℕ) → sidesRefusal n w s ≡ 0 → (1 ≤ n) × (n ≤ 8) × (length s ≡ 4 * n)
+pub sides-bounds : (n w : ℕ) (s : List ℕ) → sidesRefusal n w s ≡ 0 → (1 ≤ n) × (n ≤ greatestSize) × (length s ≡ 4 * n)
 sides-bounds n w s h = let a = sides-accepted n w s h in (omega (arith, a .low), a .high, a .long)
 
 -- nor does it where the size, the number of neighbours and the word are allowed

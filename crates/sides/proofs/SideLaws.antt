@@ -10,6 +10,7 @@ use lib.ListN.{getD}
 use borrow.Author.Tests.{lt-ltb, le-ltb}
 use Rattle.arith.specs.Bits.{testBit}
 use Rattle.arith.specs.Distance.{dist}
+use Rattle.pattern.specs.Size.{greatestSize, greatestSamples}
 use Rattle.pattern.specs.Pattern.{mark}
 use Rattle.sides.specs.Sides.{leftAt, topAt, leftChange, topChange, differ, vertEdge, horEdge, ltBy, brBy, lt, br, sideDepth}
 
@@ -27,10 +28,10 @@ pub hor-edge-bits : (n w : ℕ) → horEdge n w ≡ differ (testBit w 0) (testBi
 unfolding horEdge
 hor-edge-bits n w = simp (zero-mul, add-zero)
 
--- the lower left corner is a place of a 64-bit word
-pub corner-64 : (n : ℕ) → n ≤ 8 → (n - 1) * n < 64
-corner-64 n h =
-    let l : n - 1 ≤ 7 = omega arith in
+-- the lower left corner is a place of a pattern
+pub corner-256 : (n : ℕ) → n ≤ greatestSize → (n - 1) * n < greatestSamples
+corner-256 n h =
+    let l : n - 1 ≤ 15 = omega arith in
     omega (arith, mul-le-mul l h)
 
 pub side-depth-bits : (n w : ℕ) (s : List ℕ) (m : Bool) → sideDepth n w s m ≡ cond (differ m (testBit w 0)) (br n w s) (lt n w s)

@@ -5,10 +5,13 @@ ghost use Prim.Native.Nat.{_*_, _≤_, _<_};
 ghost use lib.ListN.{length, getD};
 ghost use Rattle.arith.specs.Checks.{lent};
 ghost use Rattle.arith.specs.Distance.{dist};
+ghost use Rattle.pattern.specs.Size.{greatestSize};
+ghost use Rattle.pattern.specs.Words.{patternNumber, usedNumber};
 ghost use Rattle.sides.specs.Sides.{leftAt, topAt, differ, mean, vertEdge, horEdge, ltBy, brBy, lt, br, sideDepth};
 ghost use Rattle.sides.specs.Answer.{sidesRefusal, sidesAnswer, sidesTold};
 use crate::SideDepths;
 use depth_table::DepthValue;
+use pattern::Pattern;
 
 // Whether two marks differ.
 fn differs(a: bool, b: bool) -> bool
@@ -18,22 +21,19 @@ fn differs(a: bool, b: bool) -> bool
 }
 
 // Whether the marks of (0,0) and (n-1,0) differ (document 01: v).
-fn vert_edge(n: usize, word: u64) -> bool
-    requires { ⌜ (1 ≤ n) × (n ≤ 8) ⌝ }
-    ensures { λ r. ⌜ r ≡ vertEdge n word ⌝ }
+fn vert_edge(n: usize, p: Pattern) -> bool
+    requires { ⌜ (1 ≤ n) × (n ≤ greatestSize) ⌝ }
+    ensures { λ r. ⌜ r ≡ vertEdge n (patternNumber p) ⌝ }
 {
-    differs(pattern::mark_at(word, 0), pattern::mark_at(word, n - 1))
+    differs(pattern::mark_at(p, 0), pattern::mark_at(p, n - 1))
 }
 
 // Whether the marks of (0,0) and (0,n-1) differ (document 01: h).
-fn hor_edge(n: usize, word: u64) -> bool
-    requires { ⌜ (1 ≤ n) × (n ≤ 8) ⌝ }
-    ensures { λ r. ⌜ r ≡ horEdge n word ⌝ }
+fn hor_edge(n: usize, p: Pattern) -> bool
+    requires { ⌜ (1 ≤ n) × (n ≤ greatestSize) ⌝ }
+    ensures { λ r. ⌜ r ≡ horEdge n (patternNumber p) ⌝ }
 {
-    differs(
-        pattern::mark_at(word, 0),
-        pattern::mark_at(word, (n - 1) * n),
-    )
+    differs(pattern::mark_at(p, 0), pattern::mark_at(p, (n - 1) * n))
 }
 
 // The mean of two samples, rounded down.
@@ -111,28 +111,28 @@ fn br_depth(n: usize, v: bool, h: bool, border: &[u8]) -> u8
 }
 
 // The depth of the side that holds (0,0), of a pattern.
-fn lt_of(n: usize, word: u64, border: &[u8]) -> DepthValue
-    requires { ⌜ (1 ≤ n) × (n ≤ 8) × (length (now border) ≡ 4 * n) ⌝ }
-    ensures { λ r. ⌜ r .0 ≡ lt n word (now (border .entry)) ⌝ }
+fn lt_of(n: usize, p: Pattern, border: &[u8]) -> DepthValue
+    requires { ⌜ (1 ≤ n) × (n ≤ greatestSize) × (length (now border) ≡ 4 * n) ⌝ }
+    ensures { λ r. ⌜ r .0 ≡ lt n (patternNumber p) (now (border .entry)) ⌝ }
 {
-    let v = vert_edge(n, word);
-    let h = hor_edge(n, word);
+    let v = vert_edge(n, p);
+    let h = hor_edge(n, p);
     DepthValue(lt_depth(n, v, h, border))
 }
 
 // The depth of the other side, of a pattern.
-fn br_of(n: usize, word: u64, border: &[u8]) -> DepthValue
-    requires { ⌜ (1 ≤ n) × (n ≤ 8) × (length (now border) ≡ 4 * n) ⌝ }
-    ensures { λ r. ⌜ r .0 ≡ br n word (now (border .entry)) ⌝ }
+fn br_of(n: usize, p: Pattern, border: &[u8]) -> DepthValue
+    requires { ⌜ (1 ≤ n) × (n ≤ greatestSize) × (length (now border) ≡ 4 * n) ⌝ }
+    ensures { λ r. ⌜ r .0 ≡ br n (patternNumber p) (now (border .entry)) ⌝ }
 {
-    let v = vert_edge(n, word);
-    let h = hor_edge(n, word);
+    let v = vert_edge(n, p);
+    let h = hor_edge(n, p);
     DepthValue(br_depth(n, v, h, border))
 }
 
 // The number of the first check that fails, 0 for none.
-fn sides_refusal(n: usize, word: u64, border: &[u8]) -> u8
-    ensures { λ r. ⌜ r ≡ sidesRefusal n word (now (border .entry)) ⌝ }
+fn sides_refusal(n: usize, p: Pattern, border: &[u8]) -> u8
+    ensures { λ r. ⌜ r ≡ sidesRefusal n (patternNumber p) (now (border .entry)) ⌝ }
 {
     if !pattern::size_ok(n) {
         return 1;
@@ -140,35 +140,38 @@ fn sides_refusal(n: usize, word: u64, border: &[u8]) -> u8
     if border.len() != 4 * n {
         return 2;
     }
-    if !pattern::word_ok(n, word) {
+    if !pattern::word_ok(n, p) {
         return 5;
     }
     0
 }
 
-// lt and br, or refusal 1, 2 or 5.
-pub fn side_depths(n: usize, word: u64, border: &[u8]) -> SideDepths
-    ensures { λ r. ⌜ sidesTold r ≡ sidesAnswer n word (now (border .entry)) ⌝ }
+// lt and br of the words of p that the size uses, or refusal 1, 2 or 5.
+pub fn side_depths(n: usize, p: Pattern, border: &[u8]) -> SideDepths
+    ensures { λ r. ⌜ sidesTold r ≡ sidesAnswer n (usedNumber n p) (now (border .entry)) ⌝ }
 {
-    let refusal = sides_refusal(n, word, border);
+    let q = pattern::used_words(n, p);
+    let refusal = sides_refusal(n, q, border);
     if refusal != 0 {
         return SideDepths::Refused(refusal);
     }
-    let lt = lt_of(n, word, border);
-    let br = br_of(n, word, border);
+    let lt = lt_of(n, q, border);
+    let br = br_of(n, q, border);
     SideDepths::Sides(lt, br)
 }
 
-// The depth of the samples with the mark m, lt where (0,0) has it too; 0 where `side_depths` refuses.
-pub fn side_depth(n: usize, word: u64, border: &[u8], m: bool) -> DepthValue
-    ensures { λ r. ⌜ r .0 ≡ lent (sidesRefusal n word (now (border .entry))) (sideDepth n word (now (border .entry)) m) 0 ⌝ }
+// The depth of the samples with the mark m, lt where (0,0) has it too; 0 where the size, the neighbours or a mark past the block are
+// refused.
+pub fn side_depth(n: usize, p: Pattern, border: &[u8], m: bool) -> DepthValue
+    ensures { λ r. let s = now (border .entry) in
+        ⌜ r .0 ≡ lent (sidesRefusal n (patternNumber p) s) (sideDepth n (patternNumber p) s m) 0 ⌝ }
 {
-    let refusal = sides_refusal(n, word, border);
+    let refusal = sides_refusal(n, p, border);
     if refusal != 0 {
         return DepthValue(0);
     }
-    if differs(m, pattern::mark_at(word, 0)) {
-        return br_of(n, word, border);
+    if differs(m, pattern::mark_at(p, 0)) {
+        return br_of(n, p, border);
     }
-    lt_of(n, word, border)
+    lt_of(n, p, border)
 }

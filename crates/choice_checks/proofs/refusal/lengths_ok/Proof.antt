@@ -2,7 +2,7 @@
 use mathlib.Core.Path.{sym, _∙_}
 use native.Mathlib.Omega.{arith}
 use borrow.Author.Tests.{eq-eqb, ne-eqb, not-true, not-false}
-use Rattle.pattern.proofs.SizeLaws.{square-64}
+use Rattle.pattern.proofs.SizeLaws.{square-256}
 use Rattle.choice_checks.specs.Refusal.{lengthsOk}
 use borrow.Author.Needs.{needs}
 use Rattle.choice_checks.proofs.refusal.lengths_ok.Statement.{statement}
@@ -16,7 +16,7 @@ unfolding lengthsOk
 returns c = rw (ne-eqb _ _ (c .if1 .taken))
 
 mul-if2 : tie.Need-mul-if2
-mul-if2 c = omega (arith, square-64 (c .before .pre))
+mul-if2 c = omega (arith, square-256 (c .before .pre))
 
 returns-2 : tie.Need-returns-2
 unfolding lengthsOk

@@ -1,7 +1,7 @@
 -- `texture_ok` meets its contract, return by return. Assumes nothing.
 use native.Mathlib.Omega.{arith}
 use borrow.Author.Tests.{eq-eqb, ne-eqb}
-use Rattle.pattern.proofs.SizeLaws.{square-64}
+use Rattle.pattern.proofs.SizeLaws.{square-256}
 use Rattle.choice_checks.proofs.refusal.texture_ok.Statement.{statement}
 use Rattle.choice_checks.proofs.refusal.texture_ok.Tie as tie
 
@@ -9,7 +9,7 @@ returns : tie.Need-returns
 returns c = rw (eq-eqb _ _ (c .if1 .taken))
 
 mul-result : tie.Need-mul-result
-mul-result c = omega (arith, square-64 (c .before .pre))
+mul-result c = omega (arith, square-256 (c .before .pre))
 
 returns-2 : tie.Need-returns-2
 returns-2 c = rw (ne-eqb _ _ (c .if1 .left))

@@ -2,7 +2,7 @@
 use native.Mathlib.Omega.{arith}
 use borrow.Author.Needs.{needs}
 use borrow.Author.Tests.{eq-eqb, ne-eqb}
-use Rattle.pattern.proofs.SizeLaws.{square-64}
+use Rattle.pattern.proofs.SizeLaws.{square-256}
 use Rattle.prediction.specs.Answer.{lengthsOk}
 use Rattle.prediction.proofs.block.lengths_ok.Statement.{statement}
 use Rattle.prediction.proofs.block.lengths_ok.Tie as tie
@@ -15,7 +15,7 @@ unfolding lengthsOk
 returns c = rw (ne-eqb _ _ (c .if1 .taken))
 
 mul-result : tie.Need-mul-result
-mul-result c = omega (arith, square-64 (c .before .pre))
+mul-result c = omega (arith, square-256 (c .before .pre))
 
 returns-2 : tie.Need-returns-2
 unfolding lengthsOk

@@ -8,15 +8,16 @@ use borrow.Author.Count.{below-none}
 use lib.ListN.{length, getD, length-set}
 use Rattle.arith.specs.Bits.{testBit}
 use Rattle.arith.proofs.ListLaws.{stored, stored-all}
+use Rattle.pattern.specs.Words.{patternNumber}
 use Rattle.prediction.proofs.block.paint.Statement.{statement}
 use Rattle.prediction.proofs.block.paint.Tie as tie
 
 abbrev Inv-loop : tie.InvT-loop
-Inv-loop word v1 v0 block₀ k₀ block k =
-    (k ≤ length block) × (length block ≡ length block₀) × ((j : ℕ) → j < k → getD block j 0 ≡ cond (testBit word j) v1 v0)
+Inv-loop p v1 v0 block₀ k₀ block k =
+    (k ≤ length block) × (length block ≡ length block₀) × ((j : ℕ) → j < k → getD block j 0 ≡ cond (testBit (patternNumber p) j) v1 v0)
 
 abbrev μ-loop : tie.MeasureT-loop
-μ-loop word v1 v0 block₀ k₀ block k = length block - k
+μ-loop p v1 v0 block₀ k₀ block k = length block - k
 
 loop-holds : tie.Need-loop-holds Inv-loop μ-loop
 loop-holds c = (omega arith, refl, below-none _)
@@ -43,7 +44,7 @@ loop-again c =
     let e = c .pick .ensures ∙ ap (λ (b : Bool). cond b (a .v1) (a .v0)) (c .before .mark-at .ensures) in (
       simp length-set (omega arith),
       simp length-set (l .inv .1),
-      stored (λ j. cond (testBit (a .word) j) (a .v1) (a .v0)) 0 (l .block) (l .k) _ (c .before .before .loop-test .taken) e (l .inv .2),
+      stored (λ j. cond (testBit (patternNumber (a .p)) j) (a .v1) (a .v0)) 0 (l .block) (l .k) _ (c .before .before .loop-test .taken) e (l .inv .2),
     )
 
 same-length : tie.Need-same-length Inv-loop μ-loop

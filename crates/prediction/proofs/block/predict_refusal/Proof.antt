@@ -3,6 +3,7 @@ use mathlib.Core.Path.{_≡_, refl, sym, ap, _∙_}
 use mir.Syntax.{w32}
 use mir.ValLaws.{toZ-ofZ}
 use borrow.Author.Tests.{not-true, not-false}
+use Rattle.pattern.specs.Words.{patternNumber}
 use Rattle.pattern.proofs.SizeLaws.{size-bounds}
 use Rattle.arith.proofs.CheckLaws.{failed, checked}
 use Rattle.offset.specs.Offset.{offsetOk}
@@ -18,7 +19,7 @@ unfolding predictRefusal
 returns c =
     let a = c .before .before .before .args in
     let found = failed 1 _ (sym (c .before .size-ok .ensures) ∙ not-true _ (c .if1 .taken)) in
-    let clause : 1 ≡ predictRefusal (a .n) (a .word) (a .neighbours) (a .table .now) (a .off0) (a .off1) (a .samples) = found in
+    let clause : 1 ≡ predictRefusal (a .n) (patternNumber (a .p)) (a .neighbours) (a .table .now) (a .off0) (a .off1) (a .samples) = found in
     clause
 
 lengths-ok-requires : tie.Need-lengths-ok-requires

@@ -4,6 +4,7 @@ use mathlib.Core.Bool.{cond}
 use denote.Ref.{now}
 use mir.Syntax.{w32}
 use mir.ValLaws.{toZ-ofZ}
+use Rattle.pattern.specs.Words.{patternNumber}
 use Rattle.prediction.proofs.BlockLaws.{level-found, value-is}
 use Rattle.prediction.proofs.block.value_of.Statement.{statement}
 use Rattle.prediction.proofs.block.value_of.Tie as tie
@@ -19,8 +20,8 @@ returns c =
     let start = c .before .before .before .before .before in
     let a = start .args in
     let off : a .off1 ≡ cond (a .m) (a .off1) (a .off0) = rw (c .before .if1 .taken) refl in
-    value-is (a .n) (a .word) (now (a .border)) (now (a .table)) (a .off0) (a .off1) (a .m)
-    (level-found (a .n) (a .word) (now (a .border)) (now (a .table)) (a .m) (start .pre) (c .level .ensures) (c .before .before .side-depth .ensures)
+    value-is (a .n) (patternNumber (a .p)) (now (a .border)) (now (a .table)) (a .off0) (a .off1) (a .m)
+    (level-found (a .n) (patternNumber (a .p)) (now (a .border)) (now (a .table)) (a .m) (start .pre) (c .level .ensures) (c .before .before .side-depth .ensures)
     (toZ-ofZ w32 _ (start .fits .off1) ∙ off))
 
 level-requires-2 : tie.Need-level-requires-2
@@ -31,8 +32,8 @@ returns-2 c =
     let start = c .before .before .before .before .before in
     let a = start .args in
     let off : a .off0 ≡ cond (a .m) (a .off1) (a .off0) = rw (c .before .if1 .left) refl in
-    value-is (a .n) (a .word) (now (a .border)) (now (a .table)) (a .off0) (a .off1) (a .m)
-    (level-found (a .n) (a .word) (now (a .border)) (now (a .table)) (a .m) (start .pre) (c .level2 .ensures) (c .before .before .side-depth .ensures)
+    value-is (a .n) (patternNumber (a .p)) (now (a .border)) (now (a .table)) (a .off0) (a .off1) (a .m)
+    (level-found (a .n) (patternNumber (a .p)) (now (a .border)) (now (a .table)) (a .m) (start .pre) (c .level2 .ensures) (c .before .before .side-depth .ensures)
     (toZ-ofZ w32 _ (start .fits .off0) ∙ off))
 
 pub value-of-spec : {M : Type 1} → statement M

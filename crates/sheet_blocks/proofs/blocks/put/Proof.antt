@@ -5,7 +5,8 @@ use native.Mathlib.Omega.{arith}
 use borrow.Author.Needs.{needs}
 use borrow.Author.Tests.{not-true, not-false}
 use lib.ListN.{length}
-use Rattle.pattern.proofs.SizeLaws.{square-64}
+use Rattle.pattern.specs.Size.{greatestSamples}
+use Rattle.pattern.proofs.SizeLaws.{square-256}
 use Rattle.sheet_blocks.specs.Grid.{liesIn}
 use Rattle.sheet_blocks.specs.Answer.{putAfter}
 use Rattle.sheet_blocks.proofs.GridLaws.{Lies, lies}
@@ -37,8 +38,8 @@ write-at-requires c κs =
     let y = c .before .before in
     let a = y .before .before .before .before .before .args in
     let f = fits (y .before .before) in
-    let l : length (a .block .now) ≡ 64 = search needs in
-    (rw (y .before .block-x .ensures, y .block-y .ensures) (f .inside), omega (arith, square-64 (f .high)))
+    let l : length (a .block .now) ≡ greatestSamples = search needs in
+    (rw (y .before .block-x .ensures, y .block-y .ensures) (f .inside), omega (arith, square-256 (f .high)))
 
 same-length : tie.Need-same-length
 same-length c = search needs

@@ -5,6 +5,7 @@ use native.Mathlib.Omega.{arith}
 use lib.ListN.{length, getD}
 use Rattle.arith.specs.Lists.{upto}
 use Rattle.arith.specs.Square.{place}
+use Rattle.pattern.specs.Size.{greatestSize, greatestSamples}
 use Rattle.arith.proofs.ListLaws.{upto-none, fill-by}
 use Rattle.arith.proofs.SquareLaws.{column-lt, row-lt, square-le}
 use Rattle.sheet_blocks.specs.Samples.{cut}
@@ -15,16 +16,16 @@ use Rattle.sheet_blocks.proofs.samples.cut_at.Tie as tie
 
 abbrev Inv-loop : tie.InvT-loop
 Inv-loop samples width n x y block₀ k₀ k-end block k =
-    (k-end ≡ n * n) × (k ≤ n * n) × (block ≡ upto 64 k (λ i. getD samples (place width (x + i % n) (y + i / n)) 0) 0)
+    (k-end ≡ n * n) × (k ≤ n * n) × (block ≡ upto greatestSamples k (λ i. getD samples (place width (x + i % n) (y + i / n)) 0) 0)
 
 abbrev μ-loop : tie.MeasureT-loop
 μ-loop samples width n x y block₀ k₀ k-end block k = n * n - k
 
 mul-k-end : tie.Need-mul-k-end Inv-loop μ-loop
-mul-k-end c = omega (arith, square-le {m = 8} (c .pre .1))
+mul-k-end c = omega (arith, square-le {m = greatestSize} (c .pre .1))
 
 loop-holds : tie.Need-loop-holds Inv-loop μ-loop
-loop-holds c = (refl, omega arith, sym (upto-none 64 _ 0))
+loop-holds c = (refl, omega arith, sym (upto-none greatestSamples _ 0))
 
 -- the place of sample k is inside the sheet
 inside :
@@ -61,10 +62,10 @@ shared-slice-read-block : tie.Need-shared-slice-read-block Inv-loop μ-loop
 shared-slice-read-block c = omega (arith, inside (c .before))
 
 array-write-block : tie.Need-array-write-block Inv-loop μ-loop
-array-write-block c = omega (arith, square-le {m = 8} (c .before .before .before .pre .1))
+array-write-block c = omega (arith, square-le {m = greatestSize} (c .before .before .before .pre .1))
 
 add-k : tie.Need-add-k Inv-loop μ-loop
-add-k c = omega (arith, square-le {m = 8} (c .before .before .before .pre .1))
+add-k c = omega (arith, square-le {m = greatestSize} (c .before .before .before .pre .1))
 
 loop-less : tie.Need-loop-less Inv-loop μ-loop
 loop-less c = omega arith
@@ -73,12 +74,12 @@ loop-again : tie.Need-loop-again Inv-loop μ-loop
 loop-again c = (
   refl,
   omega arith,
-  fill-by 64 _ _ 0 (c .before .before .loop .inv .2) refl (omega (arith, square-le {m = 8} (c .before .before .before .pre .1))),
+  fill-by greatestSamples _ _ 0 (c .before .before .loop .inv .2) refl (omega (arith, square-le {m = greatestSize} (c .before .before .before .pre .1))),
 )
 
 returns : tie.Need-returns Inv-loop μ-loop
 unfolding cut
-returns c = filled-by 64 _ _ _ (c .before .loop .inv .2) (omega arith)
+returns c = filled-by greatestSamples _ _ _ (c .before .loop .inv .2) (omega arith)
 
 pub cut-at-spec : {M : Type 1} → statement M
 cut-at-spec =

@@ -4,6 +4,7 @@ use mathlib.Core.Path.{_≡_, refl, sym}
 use native.Mathlib.Omega.{arith}
 use borrow.Author.Needs.{needs}
 use Rattle.arith.specs.Lists.{upto}
+use Rattle.pattern.specs.Size.{greatestNeighbours}
 use Rattle.arith.proofs.ListLaws.{upto-none, fill-by}
 use Rattle.sheet_neighbours.specs.Neighbours.{readFrom}
 use Rattle.sheet_neighbours.specs.Counts.{countedAt, counted}
@@ -13,7 +14,7 @@ use Rattle.sheet_neighbours.proofs.neighbours.neighbours_at.Tie as tie
 
 abbrev Inv-loop : tie.InvT-loop
 Inv-loop samples width n x y l t near₀ i₀ i-end near i =
-    (i-end ≡ 4 * n) × (i ≤ 4 * n) × (near ≡ upto 32 i (λ j. readFrom samples (countedAt n width x y l t j)) 0)
+    (i-end ≡ 4 * n) × (i ≤ 4 * n) × (near ≡ upto greatestNeighbours i (λ j. readFrom samples (countedAt n width x y l t j)) 0)
 
 abbrev μ-loop : tie.MeasureT-loop
 μ-loop samples width n x y l t near₀ i₀ i-end near i = 4 * n - i
@@ -22,7 +23,7 @@ mul-i-end : tie.Need-mul-i-end Inv-loop μ-loop
 mul-i-end c = search needs
 
 loop-holds : tie.Need-loop-holds Inv-loop μ-loop
-loop-holds c = (refl, omega arith, sym (upto-none 32 _ 0))
+loop-holds c = (refl, omega arith, sym (upto-none greatestNeighbours _ 0))
 
 neighbour-requires : tie.Need-neighbour-requires Inv-loop μ-loop
 neighbour-requires c κs = c .before .before .before .pre
@@ -37,11 +38,11 @@ loop-less : tie.Need-loop-less Inv-loop μ-loop
 loop-less c = omega arith
 
 loop-again : tie.Need-loop-again Inv-loop μ-loop
-loop-again c = (refl, omega arith, fill-by 32 _ _ 0 (c .before .before .loop .inv .2) (c .neighbour .ensures) (omega arith))
+loop-again c = (refl, omega arith, fill-by greatestNeighbours _ _ 0 (c .before .before .loop .inv .2) (c .neighbour .ensures) (omega arith))
 
 returns : tie.Need-returns Inv-loop μ-loop
 unfolding counted
-returns c = filled-by 32 _ _ _ (c .before .loop .inv .2) (omega arith)
+returns c = filled-by greatestNeighbours _ _ _ (c .before .loop .inv .2) (omega arith)
 
 pub neighbours-at-spec : {M : Type 1} → statement M
 neighbours-at-spec =

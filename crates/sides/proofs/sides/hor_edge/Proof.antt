@@ -3,7 +3,7 @@ use mathlib.Core.Path.{sym, ap₂, _∙_}
 use native.Mathlib.Omega.{arith}
 use borrow.Author.Needs.{needs}
 use Rattle.sides.specs.Sides.{differ}
-use Rattle.sides.proofs.SideLaws.{hor-edge-bits, corner-64}
+use Rattle.sides.proofs.SideLaws.{hor-edge-bits, corner-256}
 use Rattle.sides.proofs.sides.hor_edge.Statement.{statement}
 use Rattle.sides.proofs.sides.hor_edge.Tie as tie
 
@@ -14,7 +14,7 @@ sub-mark-at : tie.Need-sub-mark-at
 sub-mark-at c = search needs
 
 mul-mark-at : tie.Need-mul-mark-at
-mul-mark-at c = omega (arith, corner-64 _ (c .before .pre .1))
+mul-mark-at c = omega (arith, corner-256 _ (c .before .pre .1))
 
 mark-at-requires-2 : tie.Need-mark-at-requires-2
 mark-at-requires-2 c κs = tt

@@ -3,6 +3,7 @@ use mathlib.Core.Path.{_≡_, sym, _∙_}
 use native.Mathlib.Omega.{arith}
 use borrow.Author.Tests.{not-true, not-false, eq-eqb, ne-eqb}
 use Rattle.arith.proofs.CheckLaws.{failed}
+use Rattle.pattern.specs.Words.{patternNumber}
 use Rattle.pattern.proofs.SizeLaws.{size-bounds}
 use Rattle.sides.specs.Answer.{sidesRefusal}
 use Rattle.sides.proofs.sides.sides_refusal.Statement.{statement}
@@ -16,7 +17,7 @@ unfolding sidesRefusal
 returns c =
     let a = c .before .before .before .args in
     let found = failed 1 _ (sym (c .before .size-ok .ensures) ∙ not-true _ (c .if1 .taken)) in
-    let clause : 1 ≡ sidesRefusal (a .n) (a .word) (a .border .now) = found in
+    let clause : 1 ≡ sidesRefusal (a .n) (patternNumber (a .p)) (a .border .now) = found in
     clause
 
 mul-if2 : tie.Need-mul-if2
