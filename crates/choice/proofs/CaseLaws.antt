@@ -1,59 +1,130 @@
 -- A partition's depth is that of its case. Assumes nothing.
-use Prim.Native.Nat.{ℕ, _+_, _-_, _*_, _/_, _%_}
+use Prim.Native.Nat.{ℕ, suc, _+_, _-_, _*_, _/_, _%_, _^_, _≤_, _<_}
 use mathlib.Core.Path.{_≡_, refl, sym, ap, ap₂, _∙_}
 use mathlib.Core.Bool.{Bool, true, false, cond}
 use mathlib.Core.List.{List}
-use mathlib.Core.Logic.{⊎-elim}
+use native.Mathlib.Nat.{mul-le-mul, pow-suc, mod-eq-of-lt}
 use native.Mathlib.Omega.{arith}
 use lib.Dec.{eqb, leb}
 use lib.ListN.{length}
-use borrow.Author.Tests.{eqb-true}
+use lib.Pow.{pow-mono}
+use borrow.Author.Tests.{lt-ltb}
 use Rattle.arith.specs.Bits.{bit, testBit}
 use Rattle.arith.specs.Checks.{lent}
-use Rattle.arith.proofs.Bools.{either-of}
-use Rattle.pattern.specs.Pattern.{mark, withBit}
-use Rattle.pattern.specs.Size.{sizeOk, wordOk}
+use Rattle.arith.proofs.BitLaws.{bit-test, low-bit, high-bit, bit-past}
+use Rattle.pattern.specs.Pattern.{mark}
+use Rattle.pattern.specs.Size.{sizeOk}
+use Rattle.pattern.proofs.SizeLaws.{size-bounds}
 use Rattle.sides.specs.Sides.{differ, vertEdge, horEdge, ltBy, brBy, lt, br, sideDepth}
 use Rattle.sides.specs.Answer.{sidesRefusal}
 use Rattle.sides.proofs.CallLaws.{sides-pass}
 use Rattle.sides.proofs.SideLaws.{origin-bit, vert-edge-bits, hor-edge-bits}
-use Rattle.choice.specs.Cases.{sideCase, cornerWord, depthIn}
+use Rattle.choice.specs.Cases.{sideCase, rowWord, cornerWord, depthIn}
 
--- what holds of both allowed sizes holds of an allowed size
-by-size : (P : ℕ → Type 0) → P 4 → P 8 → (n : ℕ) → sizeOk n ≡ true → P n
-by-size P four eight n h =
-    ⊎-elim (λ e. rw (eqb-true n 4 e) four) (λ e. rw (eqb-true n 8 e) eight) (either-of (eqb n 4) (eqb n 8) h)
+-- ---- the pattern of a case
 
--- the pattern of a case marks samples of the block only
-word-in : (v h : Bool) (n : ℕ) → sizeOk n ≡ true → wordOk n (withBit (withBit 0 (n - 1) v) ((n - 1) * n) h) ≡ true
-word-in true true = by-size (λ n. wordOk n (withBit (withBit 0 (n - 1) true) ((n - 1) * n) true) ≡ true) refl refl
-word-in true false = by-size (λ n. wordOk n (withBit (withBit 0 (n - 1) true) ((n - 1) * n) false) ≡ true) refl refl
-word-in false true = by-size (λ n. wordOk n (withBit (withBit 0 (n - 1) false) ((n - 1) * n) true) ≡ true) refl refl
-word-in false false = by-size (λ n. wordOk n (withBit (withBit 0 (n - 1) false) ((n - 1) * n) false) ≡ true) refl refl
+digit-le : (b : Bool) (p : ℕ) → bit b * p ≤ p
+digit-le true p = omega arith
+digit-le false p = omega arith
 
--- so its depths are not refused
+digit-lt : (b : Bool) → bit b < 2
+digit-lt true = omega arith
+digit-lt false = omega arith
+
+digit-bit : (b : Bool) → testBit (bit b) 0 ≡ b
+digit-bit true = refl
+digit-bit false = refl
+
+none-differ : (b : Bool) → differ b false ≡ b
+none-differ true = refl
+none-differ false = refl
+
+differ-back : (a b : Bool) → differ b (differ a b) ≡ a
+differ-back true true = refl
+differ-back true false = refl
+differ-back false true = refl
+differ-back false false = refl
+
+differ-twice : (a b : Bool) → differ (differ a b) b ≡ a
+differ-twice true true = refl
+differ-twice true false = refl
+differ-twice false true = refl
+differ-twice false false = refl
+
+module _ (n : ℕ) (low : 4 ≤ n) (v h : Bool) where
+  abbrev d : Bool
+  d = differ v h
+
+  abbrev w : ℕ
+  w = rowWord n v h
+
+  two-le : 2 ≤ 2 ^ (n - 1)
+  two-le = pow-mono {i = 1} {j = n - 1} (omega arith)
+
+  digit-in : bit h < 2 ^ (n - 1)
+  digit-in = let l = digit-lt h in let m = two-le in omega arith
+
+  -- its marks are samples of the block
+  row-lt : w < 2 ^ (n * n)
+  row-lt =
+      let l = mul-le-mul {n₁ = 1} {m₁ = n} {n₂ = n} {m₂ = n} (omega arith) (omega arith) in
+      let e : 2 ^ n ≡ 2 ^ (n - 1) * 2 = ap (λ (x : ℕ). 2 ^ x) (let e : n ≡ suc (n - 1) = omega arith in e) ∙ pow-suc 2 (n - 1) in
+      let m = pow-mono {i = n} {j = n * n} (omega arith) in
+      omega (arith, digit-le d (2 ^ (n - 1)), digit-in, e)
+
+  row-origin : testBit w 0 ≡ h
+  row-origin = low-bit (n - 1) (bit d) (bit h) 0 (omega arith) ∙ digit-bit h
+
+  row-end : testBit w (n - 1) ≡ d
+  row-end =
+      high-bit (n - 1) (bit d) (bit h) (n - 1) digit-in (omega arith)
+      ∙ ap (testBit (bit d)) (let e : n - 1 - (n - 1) ≡ 0 = omega arith in e)
+      ∙ digit-bit d
+
+  row-below : testBit w ((n - 1) * n) ≡ false
+  row-below =
+      let l = mul-le-mul {n₁ = n - 1} {m₁ = 2} {n₂ = n - 1} {m₂ = n} (omega arith) (omega arith) in
+      high-bit (n - 1) (bit d) (bit h) ((n - 1) * n) digit-in (omega arith)
+      ∙ bit-past 1 (bit d) ((n - 1) * n - (n - 1)) (digit-lt d) (omega arith)
+
+  row-mark : mark n w 0 0 ≡ h
+  row-mark = origin-bit n w ∙ row-origin
+
+  row-vert : vertEdge n w ≡ v
+  row-vert = vert-edge-bits n w ∙ ap₂ differ row-origin row-end ∙ differ-back v h
+
+  row-hor : horEdge n w ≡ h
+  row-hor = hor-edge-bits n w ∙ ap₂ differ row-origin row-below ∙ none-differ h
+
+  -- its depths: of the side that holds (0,0), and of the other
+  row-depth : (s : List ℕ) (b : Bool) → sideDepth n w s (differ b h) ≡ cond b (brBy n s v h) (ltBy n s v h)
+  unfolding sideDepth lt br
+  row-depth s b =
+      let e = ap (differ (differ b h)) row-mark ∙ differ-twice b h in
+      λ i. cond (e i) (brBy n s (row-vert i) (row-hor i)) (ltBy n s (row-vert i) (row-hor i))
+
+-- the depths of a case's pattern are not refused
 pub corner-passes : (n : ℕ) (s : List ℕ) (k : ℕ) → sizeOk n ≡ true → length s ≡ 4 * n → sidesRefusal n (cornerWord n k) s ≡ 0
-corner-passes n s k ok e = sides-pass n (cornerWord n k) s ok e (word-in (eqb (k / 2 % 2) 1) (eqb (k % 2) 1) n ok)
+corner-passes n s k ok e =
+    sides-pass n (cornerWord n k) s ok e (lt-ltb _ _ (row-lt n (size-bounds n ok .0) (eqb (k / 2 % 2) 1) (eqb (k % 2) 1)))
 
 -- the depth in each case
-abbrev InCase : List ℕ → Bool → Bool → Bool → ℕ → Type 0
-InCase s b v h n = cond b (brBy n s v h) (ltBy n s v h) ≡ depthIn n s (4 * bit b + (2 * bit v + bit h))
-
-in-case : (s : List ℕ) (b v h : Bool) (n : ℕ) → sizeOk n ≡ true → InCase s b v h n
-unfolding depthIn sideDepth lt br vertEdge horEdge
-in-case s true true true = by-size (InCase s true true true) refl refl
-in-case s true true false = by-size (InCase s true true false) refl refl
-in-case s true false true = by-size (InCase s true false true) refl refl
-in-case s true false false = by-size (InCase s true false false) refl refl
-in-case s false true true = by-size (InCase s false true true) refl refl
-in-case s false true false = by-size (InCase s false true false) refl refl
-in-case s false false true = by-size (InCase s false false true) refl refl
-in-case s false false false = by-size (InCase s false false false) refl refl
+in-case :
+    (n : ℕ) (s : List ℕ) → 4 ≤ n → (b v h : Bool) → cond b (brBy n s v h) (ltBy n s v h) ≡ depthIn n s (4 * bit b + (2 * bit v + bit h))
+unfolding depthIn
+in-case n s l true true true = sym (row-depth n l true true s true)
+in-case n s l true true false = sym (row-depth n l true false s true)
+in-case n s l true false true = sym (row-depth n l false true s true)
+in-case n s l true false false = sym (row-depth n l false false s true)
+in-case n s l false true true = sym (row-depth n l true true s false)
+in-case n s l false true false = sym (row-depth n l true false s false)
+in-case n s l false false true = sym (row-depth n l false true s false)
+in-case n s l false false false = sym (row-depth n l false false s false)
 
 -- the depth of a partition is that of its case
 pub depth-case : (n w : ℕ) (s : List ℕ) (m : Bool) → sizeOk n ≡ true → sideDepth n w s m ≡ depthIn n s (sideCase n w m)
 unfolding sideDepth sideCase lt br
-depth-case n w s m ok = in-case s (differ m (mark n w 0 0)) (vertEdge n w) (horEdge n w) n ok
+depth-case n w s m ok = in-case n s (size-bounds n ok .0) (differ m (mark n w 0 0)) (vertEdge n w) (horEdge n w)
 
 -- the number as the code makes it, from the marks of three corners
 pub case-by :
@@ -68,12 +139,44 @@ case-by n w m ex ey ez ea eb ed =
       ed ∙ ap bit (ap₂ differ ex ez ∙ sym (hor-edge-bits n w)),
     )
 
+-- the other partition has the case four numbers on
+other-by : (b v h : Bool) → (4 * bit (differ false b) + (2 * bit v + bit h) + 4) % 8 ≡ 4 * bit (differ true b) + (2 * bit v + bit h)
+other-by true true true = refl
+other-by true true false = refl
+other-by true false true = refl
+other-by true false false = refl
+other-by false true true = refl
+other-by false true false = refl
+other-by false false true = refl
+other-by false false false = refl
+
+pub other-case : (n w : ℕ) {k : ℕ} → k ≡ sideCase n w false → (k + 4) % 8 ≡ sideCase n w true
+unfolding sideCase
+other-case n w e = ap (λ (x : ℕ). (x + 4) % 8) e ∙ other-by (mark n w 0 0) (vertEdge n w) (horEdge n w)
+
 -- the depth as the code looks it up, by the pattern of the case
 pub depth-by :
-    (n : ℕ) (s : List ℕ) (k : ℕ) {w d : ℕ} → sizeOk n ≡ true → length s ≡ 4 * n → w ≡ cornerWord n k
-    → d ≡ lent (sidesRefusal n w s) (sideDepth n w s (leb 4 k)) 0 → d ≡ depthIn n s k
+    (n : ℕ) (s : List ℕ) (k : ℕ) {w d a : ℕ} → sizeOk n ≡ true → length s ≡ 4 * n → w ≡ cornerWord n k → a ≡ bit (differ (leb 4 k) (eqb (k % 2) 1))
+    → d ≡ lent (sidesRefusal n w s) (sideDepth n w s (eqb a 1)) 0 → d ≡ depthIn n s k
 unfolding depthIn
-depth-by n s k {w} ok e ew ed =
+depth-by n s k {w} {d} {a} ok e ew ea ed =
+    let m = differ (leb 4 k) (eqb (k % 2) 1) in
     ed
-    ∙ ap (λ (x : ℕ). lent (sidesRefusal n x s) (sideDepth n x s (leb 4 k)) 0) ew
-    ∙ ap (λ (x : ℕ). lent x (sideDepth n (cornerWord n k) s (leb 4 k)) 0) (corner-passes n s k ok e)
+    ∙ ap₂ (λ (x : ℕ) (b : Bool). lent (sidesRefusal n x s) (sideDepth n x s b) 0) ew (ap (λ (x : ℕ). eqb x 1) ea ∙ bit-test m)
+    ∙ ap (λ (x : ℕ). lent x (sideDepth n (cornerWord n k) s m) 0) (corner-passes n s k ok e)
+
+-- the first row as the code makes it, from two digits
+row-small : (n : ℕ) → n ≤ 16 → 2 ^ (n - 1) ≤ 32768
+row-small n h = pow-mono {i = n - 1} {j = 15} (omega arith)
+
+module _ (n : ℕ) (high : n ≤ 16) (v h : Bool) {o e : ℕ} (eo : o ≡ bit (differ h false)) (ee : e ≡ bit (differ v h)) where
+  shifted : e * 2 ^ (n - 1) % 2 ^ 64 ≡ bit (differ v h) * 2 ^ (n - 1)
+  shifted =
+      ap (λ (x : ℕ). x * 2 ^ (n - 1) % 2 ^ 64) ee
+      ∙ mod-eq-of-lt (let l : bit (differ v h) * 2 ^ (n - 1) < 2 ^ 64 = omega (arith, digit-le (differ v h) (2 ^ (n - 1)), row-small n high) in l)
+
+  pub row-fits : e * 2 ^ (n - 1) % 2 ^ 64 + o < 2 ^ 64
+  row-fits = omega (arith, shifted, digit-le (differ v h) (2 ^ (n - 1)), row-small n high, eo, digit-lt (differ h false))
+
+  pub row-by : e * 2 ^ (n - 1) % 2 ^ 64 + o ≡ rowWord n v h
+  row-by = ap₂ _+_ shifted (eo ∙ ap bit (none-differ h))

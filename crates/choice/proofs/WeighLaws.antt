@@ -1,10 +1,11 @@
 -- What follows for a pattern that is weighed: the index of each partition's depth, and its best offset from that of its
--- samples as a word. Assumes nothing.
-use Prim.Native.Nat.{ℕ, _-_, _*_, _^_, _≤_, _<_}
+-- samples as a pattern. Assumes nothing.
+use Prim.Native.Nat.{ℕ, _*_, _^_, _<_}
 use mathlib.Core.Path.{_≡_, sym, ap, _∙_}
 use mathlib.Core.Bool.{Bool, true, cond}
 use mathlib.Core.List.{List}
 use native.Mathlib.Omega.{arith}
+use lib.Bits.{bitXor}
 use lib.ListN.{length, getD}
 use Rattle.arith.specs.Distance.{clamped}
 use Rattle.depth_table.specs.Table.{indexOf}
@@ -15,10 +16,10 @@ use Rattle.sides.proofs.CallLaws.{sides-accepted}
 use Rattle.offset.specs.Offset.{levelOf}
 use Rattle.side_cost.specs.Offset.{offset}
 use Rattle.side_cost.specs.Cost.{sideCost}
-use Rattle.side_cost.specs.Layers.{belowWord}
+use Rattle.side_cost.specs.Layers.{layerAt, belowWord}
 use Rattle.side_cost.specs.Trial.{TrialOf}
 use Rattle.side_cost.specs.Turn.{offsetCost, Findable}
-use Rattle.side_cost.proofs.FindLaws.{word-in, part-lt, part-cost}
+use Rattle.side_cost.proofs.FindLaws.{part-lt, part-cost}
 use Rattle.side_cost.proofs.TrialLaws.{trial-of-same}
 use Rattle.choice.specs.Cases.{sideCase, depthIn}
 use Rattle.choice.specs.Search.{trialCost}
@@ -31,24 +32,18 @@ module _ (n w : ℕ) (s o t : List ℕ) (R : ℕ) (h : Weighable n w s o t R) wh
     word-small : w < 2 ^ length o
     word-small = rw (h .square) (sides-accepted n w s (h .sides) .inside)
 
-    all : getD below 256 0 ≡ belowWord (length o) o 256
-    all = q .layers .below-at 256 (omega arith)
-
-    pub word-inside : w ≤ getD below 256 0
-    word-inside = rw all (word-in (length o) o w word-small bytes)
-
-    module _ (m : Bool) {j part : ℕ} (ej : j ≡ sideCase n w m) (hj : j < 8) (ep : part ≡ cond m w (getD below 256 0 - w)) where
+    module _ (m : Bool) {j part : ℕ} (ej : j ≡ sideCase n w m) (hj : j < 8) (ep : part ≡ cond m w (bitXor (layerAt below 256) w)) where
       abbrev i : ℕ
       i = getD indices j 0
 
       index-is : i ≡ indexOf t (sideDepth n w s m)
       index-is = q .index-at j hj ∙ ap (λ (x : ℕ). indexOf t (depthIn n s x)) ej ∙ ap (indexOf t) (sym (depth-case n w s m (sides-accepted n w s (h .sides) .size)))
 
-      part-is : part ≡ cond m w (belowWord (length o) o 256 - w)
-      part-is = ep ∙ ap (λ (x : ℕ). cond m w (x - w)) all
+      part-is : part ≡ cond m w (bitXor (belowWord (length o) o 256) w)
+      part-is = ep ∙ ap (λ (x : ℕ). cond m w (bitXor x w)) (q .layers .below-at 256 (omega arith))
 
       pub part-small : part < 2 ^ length o
-      part-small = rw part-is (part-lt (length o) o w word-small bytes m)
+      part-small = rw part-is (part-lt (length o) o w word-small m)
 
       pub findable : Findable t i R
       findable = record { sound = h .sound; inside = rw index-is (index-below t (sideDepth n w s m) (table-counts t (h .sound) .0)); near = h .near }

@@ -2,6 +2,7 @@
 ghost use mathlib.Core.Path.{_≡_};
 ghost use Prim.Native.Nat.{_<_, _≤_};
 ghost use Rattle.side_cost.specs.Offset.{offset};
+ghost use Rattle.pattern.specs.Words.{patternsOf};
 ghost use Rattle.choice_checks.specs.Case.{caseOf};
 ghost use Rattle.choice.specs.Search.{recordBy};
 ghost use Rattle.choice.specs.Answer.{bestTold, chooseTold, chooseAnswer, LeastGiven};
@@ -64,8 +65,8 @@ pub fn choose(
     reach: u32,
     texture: &[u8],
 ) -> Choice
-    ensures answered { λ r. ⌜ chooseTold r ≡ chooseAnswer (caseOf n (now (list .entry)) count (now (border .entry)) (now (original .entry)) (now (table .entry)) reach (now (texture .entry))) ⌝ }
-    ensures least { λ r. ⌜ LeastGiven (caseOf n (now (list .entry)) count (now (border .entry)) (now (original .entry)) (now (table .entry)) reach (now (texture .entry))) (chooseTold r) ⌝ }
+    ensures answered { λ r. ⌜ chooseTold r ≡ chooseAnswer (caseOf n (patternsOf n (now (list .entry))) count (now (border .entry)) (now (original .entry)) (now (table .entry)) reach (now (texture .entry))) ⌝ }
+    ensures least { λ r. ⌜ LeastGiven (caseOf n (patternsOf n (now (list .entry))) count (now (border .entry)) (now (original .entry)) (now (table .entry)) reach (now (texture .entry))) (chooseTold r) ⌝ }
 {
     let refusal = choose_refusal(n, list, count, border, original, table, reach, texture);
     if refusal != 0 {

@@ -5,11 +5,13 @@ ghost use Prim.Native.Nat.{_*_, _≤_, _<_};
 ghost use lib.ListN.{length};
 ghost use Rattle.arith.specs.Bits.{bit};
 ghost use Rattle.pattern.specs.Size.{sizeOk};
+ghost use Rattle.pattern.specs.Words.{patternNumber};
 ghost use Rattle.sides.specs.Sides.{differ};
 ghost use Rattle.choice.specs.Cases.{sideCase, cornerWord, depthIn};
 use depth_table::DepthValue;
+use pattern::Pattern;
 use pattern::mark_at;
-use pattern::with_bit;
+use pattern::one_word;
 
 // 1 where two marks differ, else 0.
 fn differing(a: bool, b: bool) -> usize
@@ -23,24 +25,25 @@ fn differing(a: bool, b: bool) -> usize
 }
 
 // The number of the case of partition m of a pattern.
-pub(crate) fn side_case(n: usize, word: u64, m: bool) -> usize
-    requires { ⌜ (1 ≤ n) × (n ≤ 8) ⌝ }
-    ensures { λ r. ⌜ (r ≡ sideCase n word m) × (r < 8) ⌝ }
+pub(crate) fn side_case(n: usize, p: Pattern, m: bool) -> usize
+    requires { ⌜ (1 ≤ n) × (n ≤ 16) ⌝ }
+    ensures { λ r. ⌜ (r ≡ sideCase n (patternNumber p) m) × (r < 8) ⌝ }
 {
-    let origin = mark_at(word, 0);
+    let origin = mark_at(p, 0);
     let other = differing(m, origin);
-    let v = differing(origin, mark_at(word, n - 1));
-    let h = differing(origin, mark_at(word, (n - 1) * n));
+    let v = differing(origin, mark_at(p, n - 1));
+    let h = differing(origin, mark_at(p, (n - 1) * n));
     4 * other + (2 * v + h)
 }
 
-// A pattern whose partitions have the case k and the case of the other side.
-fn corner_word(n: usize, k: usize) -> u64
-    requires { ⌜ (1 ≤ n) × (n ≤ 8) ⌝ }
+// The first row of a pattern of the case k: it marks (0,0) where h holds, and (n-1,0) where just one of v and h does.
+fn first_row(n: usize, k: usize) -> u64
+    requires { ⌜ (1 ≤ n) × (n ≤ 16) ⌝ }
     ensures { λ r. ⌜ r ≡ cornerWord n k ⌝ }
 {
-    let v = with_bit(0, n - 1, k / 2 % 2 == 1);
-    with_bit(v, (n - 1) * n, k % 2 == 1)
+    let origin = differing(k % 2 == 1, false) as u64;
+    let end = differing(k / 2 % 2 == 1, k % 2 == 1) as u64;
+    (end << (n - 1)) + origin
 }
 
 // The depth in the case k.
@@ -48,5 +51,6 @@ pub(crate) fn case_depth(n: usize, border: &[u8], k: usize) -> DepthValue
     requires { ⌜ (sizeOk n ≡ true) × (length (now border) ≡ 4 * n) ⌝ }
     ensures { λ r. ⌜ r .0 ≡ depthIn n (now (border .entry)) k ⌝ }
 {
-    sides::side_depth(n, corner_word(n, k), border, 4 <= k)
+    let p = one_word(first_row(n, k));
+    sides::side_depth(n, p, border, differing(4 <= k, k % 2 == 1) == 1)
 }

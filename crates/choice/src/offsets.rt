@@ -4,14 +4,17 @@ ghost use mathlib.Core.Bool.{true};
 ghost use Prim.Native.Nat.{_+_, _-_, _*_, _<_, _≤_, _^_};
 ghost use lib.ListN.{length};
 ghost use Rattle.depth_table.specs.Table.{tableOk};
-ghost use Rattle.side_cost.specs.Layers.{Layered, Parted};
+ghost use Rattle.pattern.specs.Words.{patternNumber};
+ghost use Rattle.side_cost.specs.Layers.{Fits, Layered, Parted};
 ghost use Rattle.side_cost.specs.Trial.{Better, TrialOf};
 ghost use Rattle.side_cost.specs.Turn.{twice, Turn, UpTried, DownTried, Findable, offsetCost};
 use crate::layers::wide;
 use crate::parts::Part;
 use crate::parts::cost_at;
 use crate::parts::count_below;
+use crate::parts::size_of;
 use depth_table::DepthIndex;
+use pattern::Pattern;
 use pattern::lesser;
 
 // The number of an offset, and what a part costs there.
@@ -30,26 +33,30 @@ fn better(best: Trial, number: usize, cost: u32) -> Trial
     best
 }
 
-// Of the indices `from` to `to` - 1 the last one at whose value, plus 0 or 1, twice the samples of the word below it stay under the limit,
+// Of the indices `from` to `to` - 1 the last one at whose value, plus 0 or 1, twice the samples of the part below it stay under the limit,
 // or `from` where there is none.
 fn turn(
-    below: &[u64; 257],
-    word: u64,
+    below: &[u64; 1028],
+    part: Part,
     limit: u32,
     table: &[u8],
     plus: usize,
     from: usize,
     to: usize,
 ) -> usize
-    requires { ⌜ (plus ≤ 1) × (from < to) × (to < length (now table)) × (length (now table) ≤ 256) ⌝ }
-    ensures { λ r. ⌜ Turn (now (below .entry)) word limit (now (table .entry)) plus from to r ⌝ }
+    requires { ⌜ Fits (part .wide) (patternNumber (part .marks))
+        × (plus ≤ 1)
+        × (from < to)
+        × (to < length (now table))
+        × (length (now table) ≤ 256) ⌝ }
+    ensures { λ r. ⌜ Turn (now (below .entry)) (patternNumber (part .marks)) limit (now (table .entry)) plus from to r ⌝ }
 {
     let mut low = from;
     let mut high = to;
     while low + 1 < high {
         let middle = (low + high) / 2;
         let v = wide(table[middle]);
-        if 2 * count_below(below, word, v + plus) < limit {
+        if 2 * count_below(below, part, v + plus) < limit {
             low = middle;
         } else {
             high = middle;
@@ -70,22 +77,23 @@ fn number_down(k: usize) -> usize
 // the two levels there are next to each other as values too, the farther costs less.
 fn best_up(
     samples: &[u8],
-    below: &[u64; 257],
-    planes: &[u64; 8],
+    below: &[u64; 1028],
+    planes: &[u64; 32],
     part: Part,
     table: &[u8],
     at: usize,
     last: usize,
 ) -> Trial
-    requires { ⌜ Parted (now samples) (now below) (now planes) (part .word) (part .size)
+    requires { ⌜ Parted (now samples) (now below) (now planes) (patternNumber (part .marks)) (part .size)
+        × Fits (part .wide) (patternNumber (part .marks))
         × (tableOk (now table) ≡ true)
         × (at < last)
         × (last < length (now table))
-        × (twice (now below) (part .word) (now table) 1 at < part .size) ⌝ }
-    ensures { λ r. ⌜ UpTried (now (samples .entry)) (now (below .entry)) (part .word) (part .size) (now (table .entry)) at last
-        (r .number) (r .cost) × (r .cost ≤ 65280) ⌝ }
+        × (twice (now below) (patternNumber (part .marks)) (now table) 1 at < part .size) ⌝ }
+    ensures { λ r. ⌜ UpTried (now (samples .entry)) (now (below .entry)) (patternNumber (part .marks)) (part .size)
+        (now (table .entry)) at last (r .number) (r .cost) × (r .cost ≤ 65280) ⌝ }
 {
-    let low = turn(below, part.word, part.size, table, 1, at, last);
+    let low = turn(below, part, part.size, table, 1, at, last);
     let next = low + 1;
     let near_value = wide(table[low]);
     let far_value = wide(table[next]);
@@ -112,22 +120,23 @@ fn best_up(
 // The best offset downward, where the cost falls toward lower values.
 fn best_down(
     samples: &[u8],
-    below: &[u64; 257],
-    planes: &[u64; 8],
+    below: &[u64; 1028],
+    planes: &[u64; 32],
     part: Part,
     table: &[u8],
     at: usize,
     end: usize,
 ) -> Trial
-    requires { ⌜ Parted (now samples) (now below) (now planes) (part .word) (part .size)
+    requires { ⌜ Parted (now samples) (now below) (now planes) (patternNumber (part .marks)) (part .size)
+        × Fits (part .wide) (patternNumber (part .marks))
         × (tableOk (now table) ≡ true)
         × (end < at)
         × (at < length (now table))
-        × (part .size < twice (now below) (part .word) (now table) 0 at) ⌝ }
-    ensures { λ r. ⌜ DownTried (now (samples .entry)) (now (below .entry)) (part .word) (part .size) (now (table .entry)) at end
-        (r .number) (r .cost) × (r .cost ≤ 65280) ⌝ }
+        × (part .size < twice (now below) (patternNumber (part .marks)) (now table) 0 at) ⌝ }
+    ensures { λ r. ⌜ DownTried (now (samples .entry)) (now (below .entry)) (patternNumber (part .marks)) (part .size)
+        (now (table .entry)) at end (r .number) (r .cost) × (r .cost ≤ 65280) ⌝ }
 {
-    let low = turn(below, part.word, part.size + 1, table, 0, end, at);
+    let low = turn(below, part, part.size + 1, table, 0, end, at);
     let next = low + 1;
     let near_value = wide(table[next]);
     let far_value = wide(table[low]);
@@ -154,32 +163,37 @@ fn best_down(
 // The first offset of least cost of a part, where its depth has the given index, and its cost.
 pub(crate) fn best_of_part(
     samples: &[u8],
-    below: &[u64; 257],
-    planes: &[u64; 8],
-    word: u64,
+    below: &[u64; 1028],
+    planes: &[u64; 32],
+    marks: Pattern,
     table: &[u8],
     index: DepthIndex,
     reach: usize,
 ) -> Trial
     requires { ⌜ Layered (now samples) (now below) (now planes)
-        × (word < 2 ^ length (now samples))
+        × (patternNumber marks < 2 ^ length (now samples))
         × Findable (now table) (index .0) reach ⌝ }
-    ensures { λ r. ⌜ TrialOf (offsetCost (now (samples .entry)) word true (now (table .entry)) (index .0)) (2 * reach)
+    ensures { λ r. ⌜ TrialOf (offsetCost (now (samples .entry)) (patternNumber marks) true (now (table .entry)) (index .0)) (2 * reach)
         (r .number) (r .cost) × (r .cost ≤ 65280) ⌝ }
 {
     let at = index.0;
-    let size = u64::count_ones(word);
-    let part = Part { word, size };
+    let long = 64 < samples.len();
+    let size = size_of(marks, long);
+    let part = Part {
+        marks,
+        size,
+        wide: long,
+    };
     let last = at + lesser(reach, table.len() - 1 - at);
     let end = at - lesser(reach, at);
     let v = wide(table[at]);
     if at < last {
-        if 2 * count_below(below, word, v + 1) < size {
+        if 2 * count_below(below, part, v + 1) < size {
             return best_up(samples, below, planes, part, table, at, last);
         }
     }
     if end < at {
-        if size < 2 * count_below(below, word, v) {
+        if size < 2 * count_below(below, part, v) {
             return best_down(samples, below, planes, part, table, at, end);
         }
     }

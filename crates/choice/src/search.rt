@@ -2,15 +2,17 @@
 ghost use mathlib.Core.Path.{_≡_};
 ghost use mathlib.Core.Bool.{true, cond};
 ghost use mathlib.Core.Logic.{_⊎_};
-ghost use Prim.Native.Nat.{_-_, _*_, _≤_};
+ghost use Prim.Native.Nat.{_-_, _*_, _<_, _≤_};
 ghost use lib.Dec.{ltb};
 ghost use lib.ListN.{length, getD};
 ghost use Rattle.pattern.specs.Answer.{samplesRefusal};
 ghost use Rattle.pattern.specs.Size.{sizeOk};
 ghost use Rattle.pattern.specs.Contour.{contourOf};
+ghost use Rattle.pattern.specs.Words.{patternNumber, patternsOf};
 ghost use Rattle.side_cost.specs.Trial.{TrialOf};
 ghost use Rattle.choice_checks.specs.Case.{caseOf};
 ghost use Rattle.choice_checks.specs.Refusal.{chooseRefusal};
+ghost use Rattle.choice.specs.Cases.{sideCase};
 ghost use Rattle.choice.specs.Search.{trialCost};
 ghost use Rattle.choice.specs.Picked.{blockCase, Weighable, Prepared, CaseIndices, SidesOf, PickedOf};
 use crate::cases::case_depth;
@@ -19,9 +21,10 @@ use crate::layers::below_layers;
 use crate::layers::bit_planes;
 use crate::offsets::Trial;
 use crate::offsets::best_of_part;
-use crate::parts::side_word;
+use crate::parts::side_marks;
 use depth_table::DepthIndex;
 use pattern::Contoured;
+use pattern::Pattern;
 
 // The index of the depth in each of the eight cases.
 fn case_indices(n: usize, border: &[u8], table: &[u8]) -> [usize; 8]
@@ -36,26 +39,29 @@ fn case_indices(n: usize, border: &[u8], table: &[u8]) -> [usize; 8]
     indices
 }
 
-// The first best offset of a partition of a pattern, and what the partition costs there.
+// The first best offset of a partition of a pattern, whose depth is of the case k, and what the partition costs there.
 fn best_offset(
     n: usize,
-    word: u64,
+    p: Pattern,
     side: bool,
+    k: usize,
     border: &[u8],
     original: &[u8],
     table: &[u8],
     reach: usize,
-    below: &[u64; 257],
-    planes: &[u64; 8],
+    below: &[u64; 1028],
+    planes: &[u64; 32],
     indices: &[usize; 8],
 ) -> Trial
-    requires { ⌜ Weighable n word (now border) (now original) (now table) reach
-        × Prepared n (now border) (now original) (now table) (now below) (now planes) (now indices) ⌝ }
-    ensures { λ r. ⌜ TrialOf (trialCost (blockCase n (now (border .entry)) (now (original .entry)) (now (table .entry)) reach) word side)
+    requires { ⌜ Weighable n (patternNumber p) (now border) (now original) (now table) reach
+        × Prepared n (now border) (now original) (now table) (now below) (now planes) (now indices)
+        × (k ≡ sideCase n (patternNumber p) side)
+        × (k < 8) ⌝ }
+    ensures { λ r. ⌜ TrialOf
+        (trialCost (blockCase n (now (border .entry)) (now (original .entry)) (now (table .entry)) reach) (patternNumber p) side)
         (2 * reach) (r .number) (r .cost) × (r .cost ≤ 65280) ⌝ }
 {
-    let part = side_word(below, word, side);
-    let k = side_case(n, word, side);
+    let part = side_marks(below, p, side);
     let at = indices[k];
     best_of_part(original, below, planes, part, table, DepthIndex(at), reach)
 }
@@ -70,24 +76,26 @@ struct Sides {
 // The best offset of each partition of a pattern, and the cost of both.
 fn best_sides(
     n: usize,
-    word: u64,
+    p: Pattern,
     border: &[u8],
     original: &[u8],
     table: &[u8],
     reach: usize,
-    below: &[u64; 257],
-    planes: &[u64; 8],
+    below: &[u64; 1028],
+    planes: &[u64; 32],
     indices: &[usize; 8],
 ) -> Sides
-    requires { ⌜ Weighable n word (now border) (now original) (now table) reach
+    requires { ⌜ Weighable n (patternNumber p) (now border) (now original) (now table) reach
         × Prepared n (now border) (now original) (now table) (now below) (now planes) (now indices) ⌝ }
-    ensures { λ r. ⌜ SidesOf (blockCase n (now (border .entry)) (now (original .entry)) (now (table .entry)) reach) word
+    ensures { λ r. ⌜ SidesOf (blockCase n (now (border .entry)) (now (original .entry)) (now (table .entry)) reach) (patternNumber p)
         (r .trial0) (r .trial1) (r .cost) ⌝ }
 {
+    let k = side_case(n, p, false);
     let unmarked = best_offset(
         n,
-        word,
+        p,
         false,
+        k,
         border,
         original,
         table,
@@ -98,8 +106,9 @@ fn best_sides(
     );
     let marked = best_offset(
         n,
-        word,
+        p,
         true,
+        (k + 4) % 8,
         border,
         original,
         table,
@@ -108,30 +117,33 @@ fn best_sides(
         planes,
         indices,
     );
+    let cost = unmarked.cost + marked.cost;
     Sides {
         trial0: unmarked.number,
         trial1: marked.number,
-        cost: unmarked.cost + marked.cost,
+        cost,
     }
 }
 
-// The contour of the texture; 0 where there is none.
-fn contour_or_none(n: usize, texture: &[u8]) -> u64
+// The contour of the texture; no marks where there is none.
+fn contour_or_none(n: usize, texture: &[u8]) -> Pattern
     requires { ⌜ (length (now texture) ≡ 0) ⊎ (samplesRefusal n (length (now texture)) ≡ 0) ⌝ }
-    ensures { λ r. ⌜ r ≡ contourOf n (now (texture .entry)) ⌝ }
+    ensures { λ r. ⌜ patternNumber r ≡ contourOf n (now (texture .entry)) ⌝ }
 {
     match pattern::contour(n, texture) {
-        Contoured::Word(w) => w,
-        Contoured::Refused(_) => 0,
+        Contoured::Pattern(p) => p,
+        Contoured::Refused(_) => pattern::one_word(0),
     }
 }
 
-// The pattern with the number p: the entry p, and past the count the contour.
-fn pattern_at(list: &[u64], count: usize, contour: u64, p: usize) -> u64
-    requires { ⌜ count ≤ length (now list) ⌝ }
-    ensures { λ r. ⌜ r ≡ cond (ltb p count) (getD (now (list .entry)) p 0) contour ⌝ }
+// The pattern with the number k: the entry k, and past the count the contour.
+fn pattern_by(n: usize, list: &[u64], count: usize, contour: Pattern, k: usize) -> Pattern
+    ensures { λ r. ⌜ patternNumber r ≡ cond (ltb k count) (getD (patternsOf n (now (list .entry))) k 0) (patternNumber contour) ⌝ }
 {
-    if p < count { list[p] } else { contour }
+    if k < count {
+        return pattern::pattern_at(n, list, k);
+    }
+    contour
 }
 
 // The number of the last pattern: the contour's where texture is lent, else the last entry's.
@@ -166,8 +178,12 @@ pub(crate) fn best_pattern(
     reach: usize,
     texture: &[u8],
 ) -> Picked
-    requires { ⌜ chooseRefusal (caseOf n (now list) count (now border) (now original) (now table) reach (now texture)) ≡ 0 ⌝ }
-    ensures { λ r. ⌜ PickedOf (caseOf n (now (list .entry)) count (now (border .entry)) (now (original .entry)) (now (table .entry)) reach (now (texture .entry))) (r .number) (r .trial0) (r .trial1) (r .cost) ⌝ }
+    requires { ⌜ chooseRefusal
+        (caseOf n (patternsOf n (now list)) count (now border) (now original) (now table) reach (now texture)) ≡ 0 ⌝ }
+    ensures { λ r. ⌜ PickedOf
+        (caseOf n (patternsOf n (now (list .entry))) count (now (border .entry)) (now (original .entry)) (now (table .entry)) reach
+        (now (texture .entry)))
+        (r .number) (r .trial0) (r .trial1) (r .cost) ⌝ }
 {
     let below = below_layers(original);
     let planes = bit_planes(original);
@@ -177,7 +193,7 @@ pub(crate) fn best_pattern(
     let mut at: usize = 0;
     let mut best = best_sides(
         n,
-        pattern_at(list, count, contour, 0),
+        pattern_by(n, list, count, contour, 0),
         border,
         original,
         table,
@@ -189,7 +205,7 @@ pub(crate) fn best_pattern(
     for p in 1..end {
         let next = best_sides(
             n,
-            pattern_at(list, count, contour, p),
+            pattern_by(n, list, count, contour, p),
             border,
             original,
             table,

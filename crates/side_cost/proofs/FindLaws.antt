@@ -1,29 +1,29 @@
 -- The best offset of a part: its cost is convex in the value and the table rises, so the level next to the turn is the first least in the
 -- order of offsets. Assumes nothing.
 use Prim.Native.Nat.{ℕ, suc, _+_, _-_, _*_, _^_, _≤_, _<_, min}
-use mathlib.Core.Path.{_≡_, refl, sym, ap, subst, _∙_}
+use mathlib.Core.Path.{_≡_, refl, ap, subst, _∙_}
 use mathlib.Core.Bool.{Bool, true, false, cond, not}
 use mathlib.Core.List.{List}
 use mathlib.Core.Logic.{_⊎_, inl, inr, ⊎-elim}
 use native.Mathlib.Nat.{eq-or-lt-of-le}
 use native.Mathlib.Numerals.{add-one}
 use native.Mathlib.Omega.{arith}
-use lib.Bits.{bitAnd}
+use lib.Bits.{bitAnd, bitXor, xor-lt}
 use lib.Count.{ones}
 use lib.ListN.{length, getD}
-use lib.Pow.{le-ones, ones-sub-lt}
+use lib.Dec.{ltb}
 use borrow.Author.Tests.{lt-ltb}
-use Rattle.arith.specs.Bits.{bits, testBit}
+use Rattle.arith.specs.Bits.{testBit}
 use Rattle.arith.specs.Distance.{dist}
-use Rattle.arith.proofs.BitLaws.{bits-ext, bits-not, bits-same, bits-none, bits-at}
+use Rattle.arith.proofs.BitLaws.{bits-lt, bits-at}
 use Rattle.arith.proofs.Sums.{sum-ext}
 use Rattle.depth_table.proofs.TableLaws.{table-bytes, table-rises}
 use Rattle.side_cost.specs.Cost.{sideCost}
 use Rattle.side_cost.specs.Tally.{sideSize, sideBelow}
-use Rattle.side_cost.specs.Layers.{belowWord, Parted}
+use Rattle.side_cost.specs.Layers.{layerAt, belowWord, Parted}
 use Rattle.side_cost.specs.Trial.{Better, TrialOf}
 use Rattle.side_cost.specs.Turn.{Convex, BestLevel, twice, Turn, UpTried, DownTried, offsetCost, Findable}
-use Rattle.side_cost.proofs.LayerLaws.{below-count}
+use Rattle.side_cost.proofs.LayerLaws.{xor-bit, below-count}
 use Rattle.side_cost.proofs.TallyLaws.{cost-step, below-step}
 use Rattle.side_cost.proofs.TurnLaws.{up-next, up-last, down-next, down-last, best-here, number-up, number-down}
 
@@ -39,9 +39,15 @@ side-convex c samples w m =
 
 -- the count on the words, as the code makes it
 pub twice-by :
-    (below : List ℕ) (word : ℕ) (table : List ℕ) (plus j : ℕ) {n u : ℕ} → n ≡ ones (bitAnd word (getD below u 0)) → u ≡ getD table j 0 + plus
+    (below : List ℕ) (word : ℕ) (table : List ℕ) (plus j : ℕ) {n u : ℕ} → n ≡ ones (bitAnd word (layerAt below u)) → u ≡ getD table j 0 + plus
     → 2 * n ≡ twice below word table plus j
-twice-by below word table plus j e q = ap (λ (x : ℕ). 2 * x) (e ∙ ap (λ (x : ℕ). ones (bitAnd word (getD below x 0))) q)
+twice-by below word table plus j e q = ap (λ (x : ℕ). 2 * x) (e ∙ ap (λ (x : ℕ). ones (bitAnd word (layerAt below x))) q)
+
+-- a cost at a value, as the code reads it from the table
+pub cost-by :
+    (samples : List ℕ) (word : ℕ) {cost v x : ℕ} → cost ≡ sideCost (length samples) samples word true v → v ≡ x
+    → cost ≡ sideCost (length samples) samples word true x
+cost-by samples word e q = e ∙ ap (sideCost (length samples) samples word true) q
 
 -- what is better, with the costs as the definition has them
 pub better-by :
@@ -51,35 +57,29 @@ better-by {near = near} {far = far} e q h = rw (← e, ← q) h
 pub better-small : {a b near far number cost : ℕ} → near ≤ 65280 → far ≤ 65280 → Better a near b far number cost → cost ≤ 65280
 better-small n f = ⊎-elim (λ w. omega (arith, w .2)) (λ w. omega (arith, w .2))
 
--- a partition as a part: the word whose bits are the samples that belong to it
+-- a partition as a part: the pattern that marks the samples that belong to it, its own marks or all others of the block
+marked-or-not : (b : Bool) → cond b (not true) true ≡ not b
+marked-or-not true = refl
+marked-or-not false = refl
+
 module _ (c : ℕ) (samples : List ℕ) (w : ℕ) (small : w < 2 ^ c) where
-  all-below : ((k : ℕ) → getD samples k 0 < 256) → belowWord c samples 256 ≡ 2 ^ c - 1
-  all-below bytes =
-      bits-ext _ (λ k. not false) c (λ k l. lt-ltb (getD samples k 0) 256 (bytes k))
-      ∙ sym (bits-not (λ k. false) c)
-      ∙ ap (λ (x : ℕ). 2 ^ c - 1 - x) (bits-none c)
-      ∙ omega arith
-
-  others : 2 ^ c - 1 - w ≡ bits (λ k. not (testBit w k)) c
-  others = ap (λ (x : ℕ). 2 ^ c - 1 - x) (sym (bits-same c w small)) ∙ bits-not (testBit w) c
-
-  pub word-in : ((k : ℕ) → getD samples k 0 < 256) → w ≤ belowWord c samples 256
-  word-in bytes = rw (all-below bytes) (le-ones c small)
-
-  pub part-lt : ((k : ℕ) → getD samples k 0 < 256) → (m : Bool) → cond m w (belowWord c samples 256 - w) < 2 ^ c
-  part-lt bytes true = small
-  part-lt bytes false = rw (all-below bytes) (ones-sub-lt c w)
+  pub part-lt : (m : Bool) → cond m w (bitXor (belowWord c samples 256) w) < 2 ^ c
+  part-lt true = small
+  part-lt false = xor-lt c (belowWord c samples 256) w (bits-lt _ c) small
 
   pub part-cost :
       ((k : ℕ) → getD samples k 0 < 256) → (m : Bool) (v : ℕ)
-      → sideCost c samples (cond m w (belowWord c samples 256 - w)) true v ≡ sideCost c samples w m v
+      → sideCost c samples (cond m w (bitXor (belowWord c samples 256) w)) true v ≡ sideCost c samples w m v
   unfolding sideCost
   part-cost bytes true v = refl
   part-cost bytes false v =
       sum-ext _ _ c
       (λ k l.
       ap (λ (b : Bool). cond b (dist v (getD samples k 0)) 0)
-      (ap (λ (x : ℕ). testBit (x - w) k) (all-below bytes) ∙ ap (λ (x : ℕ). testBit x k) others ∙ bits-at (λ i. not (testBit w i)) c k l))
+      (xor-bit (belowWord c samples 256) w k
+      ∙ ap (λ (b : Bool). cond (testBit w k) (not b) b)
+      (bits-at (λ i. ltb (getD samples i 0) 256) c k l ∙ lt-ltb (getD samples k 0) 256 (bytes k))
+      ∙ marked-or-not (testBit w k)))
 
 -- the last index in reach
 pub last-in : (count i R : ℕ) → i < count → i + min R (count - 1 - i) ≡ min (i + R) (count - 1)

@@ -3,22 +3,25 @@ use Prim.Native.Nat.{ℕ, zero, suc, _+_, _-_, _*_, _/_, _%_, _^_, _≤_, _<_, m
 use mathlib.Core.Path.{_≡_, refl, sym, ap, ap₂, _∙_}
 use mathlib.Core.Bool.{Bool, true, false, cond, not, _&&_}
 use mathlib.Core.List.{List}
-use native.Mathlib.Nat.{mul-add, mul-zero, div-one, div-eq-of-lt, lt-of-le-of-lt, div-le-self}
+use native.Mathlib.Nat.{mul-add, mul-zero, div-one, div-eq-of-lt, lt-of-le-of-lt, lt-of-lt-of-le, div-le-self}
+use native.Mathlib.Decide.{decLt}
 use native.Mathlib.Omega.{arith}
-use lib.Bits.{bitAnd, bitXor, differ, and-shr, and-step, and-le-l, xor-shr, xor-step, xor-lt}
-use lib.Count.{ones}
+use lib.Bits.{bitAnd, bitXor, differ, and-shr, and-step, and-le-l, and-lt, and-block, xor-shr, xor-step, xor-lt, xor-block}
+use lib.Count.{ones, ones-le}
 use lib.Dec.{eqb, ltb}
 use lib.ListN.{getD}
-use lib.Pow.{shr-shr}
-use borrow.Author.Tests.{ltb-true, ltb-false}
+use lib.Pow.{shr-shr, pow-mono}
+use borrow.Author.Tests.{ltb-true, ltb-false, lt-ltb, le-ltb}
 use Rattle.arith.specs.Bits.{bit, bits, testBit}
 use Rattle.arith.specs.Distance.{dist}
 use Rattle.arith.specs.Sum.{sumTo}
 use Rattle.arith.proofs.BitLaws.{bits-lt, bits-ext, bits-at, bits-not, bits-same, ones-bits, digit-of}
 use Rattle.arith.proofs.Sums.{sum-ext, sum-add, sum-le, sum-none}
+use Rattle.pattern.specs.Words.{joined, fourWords}
+use Rattle.pattern.proofs.WordLaws.{four-ones, first-word}
 use Rattle.side_cost.specs.Cost.{sideCost}
 use Rattle.side_cost.specs.Tally.{sideCount, sideSize, sideBelow}
-use Rattle.side_cost.specs.Layers.{belowWord, planeWord, flipped, partSum}
+use Rattle.side_cost.specs.Layers.{belowWord, planeWord, Fits, flipped, partSum}
 
 -- ---- the bits that two words share
 
@@ -96,6 +99,58 @@ module _ (c w : ℕ) (f : ℕ → Bool) (small : w < 2 ^ c) where
 
   pub common-ones : ones (bitAnd w (bits f c)) ≡ sumTo (λ k. bit (testBit w k && f k)) c
   common-ones = ones-bits c (bitAnd w (bits f c)) common-lt ∙ sum-ext _ _ c (λ k l. ap bit (common-bit k l))
+
+-- ---- word by word
+
+module _ (op : ℕ → ℕ → ℕ) (block : (k a b r s : ℕ) → r < 2 ^ k → s < 2 ^ k → op (a * 2 ^ k + r) (b * 2 ^ k + s) ≡ op a b * 2 ^ k + op r s) where
+  by-words :
+      (a b c d a′ b′ c′ d′ : ℕ) → a < 2 ^ 64 → b < 2 ^ 64 → c < 2 ^ 64 → a′ < 2 ^ 64 → b′ < 2 ^ 64 → c′ < 2 ^ 64
+      → op (fourWords a b c d) (fourWords a′ b′ c′ d′) ≡ fourWords (op a a′) (op b b′) (op c c′) (op d d′)
+  unfolding fourWords
+  by-words a b c d a′ b′ c′ d′ p q r p′ q′ r′ =
+      block 64 (joined (joined d c) b) (joined (joined d′ c′) b′) a a′ p p′
+      ∙ ap (λ (x : ℕ). joined x (op a a′))
+      (block 64 (joined d c) (joined d′ c′) b b′ q q′ ∙ ap (λ (x : ℕ). joined x (op b b′)) (block 64 d d′ c c′ r r′))
+
+-- the bits in which two patterns differ
+pub four-xor :
+    (a b c d a′ b′ c′ d′ : ℕ) → a < 2 ^ 64 → b < 2 ^ 64 → c < 2 ^ 64 → a′ < 2 ^ 64 → b′ < 2 ^ 64 → c′ < 2 ^ 64
+    → fourWords (bitXor a a′) (bitXor b b′) (bitXor c c′) (bitXor d d′) ≡ bitXor (fourWords a b c d) (fourWords a′ b′ c′ d′)
+four-xor a b c d a′ b′ c′ d′ p q r p′ q′ r′ = sym (by-words bitXor xor-block a b c d a′ b′ c′ d′ p q r p′ q′ r′)
+
+-- the samples that two patterns share: in four words, and where the first pattern has one word
+pub four-common :
+    (a b c d a′ b′ c′ d′ : ℕ) → a < 2 ^ 64 → b < 2 ^ 64 → c < 2 ^ 64 → a′ < 2 ^ 64 → b′ < 2 ^ 64 → c′ < 2 ^ 64
+    → ones (bitAnd d d′) + ones (bitAnd c c′) + ones (bitAnd b b′) + ones (bitAnd a a′) ≡ ones (bitAnd (fourWords a b c d) (fourWords a′ b′ c′ d′))
+four-common a b c d a′ b′ c′ d′ p q r p′ q′ r′ =
+    sym
+    (ap ones (by-words bitAnd and-block a b c d a′ b′ c′ d′ p q r p′ q′ r′)
+    ∙ four-ones (bitAnd a a′) (bitAnd b b′) (bitAnd c c′) (bitAnd d d′) (and-lt 64 a a′ p p′) (and-lt 64 b b′ q q′) (and-lt 64 c c′ r r′))
+
+and-narrow : (h a b : ℕ) → a < 2 ^ 64 → b < 2 ^ 64 → bitAnd a (joined h b) ≡ bitAnd a b
+and-narrow h a b p q =
+    ap (λ (x : ℕ). bitAnd x (joined h b)) (let e : a ≡ joined 0 a = omega arith in e)
+    ∙ and-block 64 0 h a b p q
+    ∙ (let z : bitAnd 0 h ≤ 0 = and-le-l 0 h in let e : joined (bitAnd 0 h) (bitAnd a b) ≡ bitAnd a b = omega arith in e)
+
+pub one-common :
+    (a b c d a′ b′ c′ d′ : ℕ) → a < 2 ^ 64 → a′ < 2 ^ 64 → fourWords a b c d < 2 ^ 64
+    → ones (bitAnd a a′) ≡ ones (bitAnd (fourWords a b c d) (fourWords a′ b′ c′ d′))
+unfolding fourWords
+one-common a b c d a′ b′ c′ d′ p p′ h =
+    ap ones (sym (and-narrow (joined (joined d′ c′) b′) a a′ p p′) ∙ ap (λ (x : ℕ). bitAnd x (fourWords a′ b′ c′ d′)) (sym (first-word a b c d p h)))
+
+-- a pattern of at most 64 samples fits in one word
+pub fits-block : (c w : ℕ) → c ≤ 256 → w < 2 ^ c → Fits (ltb 64 c) w
+fits-block c w few small = go (decLt 64 c)
+  where
+    go : Dec (64 < c) → Fits (ltb 64 c) w
+    go (yes h) = rw (lt-ltb 64 c h) (lt-of-lt-of-le small (pow-mono few))
+    go (no h) = rw (le-ltb 64 c (omega arith)) (lt-of-lt-of-le small (pow-mono {i = c} {j = 64} (omega arith)))
+
+-- a word shares at most 64 samples with another
+pub common-le : (a b : ℕ) → a < 2 ^ 64 → b < 2 ^ 64 → ones (bitAnd a b) ≤ 64
+common-le a b p q = ones-le 64 (bitAnd a b) (and-lt 64 a b p q)
 
 and-true : (b : Bool) → b ≡ (b && true)
 and-true true = refl

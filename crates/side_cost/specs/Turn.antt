@@ -10,6 +10,7 @@ use lib.ListN.{length, getD}
 use Rattle.arith.specs.Distance.{clamped}
 use Rattle.depth_table.specs.Table.{tableOk}
 use Rattle.side_cost.specs.Cost.{sideCost}
+use Rattle.side_cost.specs.Layers.{layerAt}
 use Rattle.side_cost.specs.Offset.{offset}
 use Rattle.side_cost.specs.Trial.{Better}
 
@@ -28,7 +29,7 @@ pub record BestLevel (F : ℕ → ℕ) (lo hi i j : ℕ) : Type 0 where
 
 -- twice the samples of the word that are below the value at index j, plus 0 or 1
 abbrev pub twice : List ℕ → ℕ → List ℕ → ℕ → ℕ → ℕ
-twice below word table plus j = 2 * ones (bitAnd word (getD below (getD table j 0 + plus) 0))
+twice below word table plus j = 2 * ones (bitAnd word (layerAt below (getD table j 0 + plus)))
 
 -- r is one of from .. to - 1; it is the first or twice is below the limit; the next is `to` or twice is not
 pub record Turn (below : List ℕ) (word limit : ℕ) (table : List ℕ) (plus from to r : ℕ) : Type 0 where

@@ -1,5 +1,6 @@
 -- `choose` meets its contract: the refusal, or what was picked; and an answer that is the definition's is least. Assumes nothing.
 use mathlib.Core.Path.{_≡_, sym, _∙_}
+use Rattle.pattern.specs.Words.{patternsOf}
 use Rattle.choice_checks.specs.Case.{Case, caseOf}
 use Rattle.choice_checks.specs.Refusal.{chooseRefusal}
 use Rattle.choice_checks.proofs.AcceptLaws.{accepted}
@@ -12,7 +13,7 @@ use Rattle.choice.proofs.answer.choose.Tie as tie
 abbrev given : (c : tie.Start) → Case
 given c =
     let a = c .args in
-    caseOf (a .n) (a .list .now) (a .count) (a .border .now) (a .original .now) (a .table .now) (a .reach) (a .texture .now)
+    caseOf (a .n) (patternsOf (a .n) (a .list .now)) (a .count) (a .border .now) (a .original .now) (a .table .now) (a .reach) (a .texture .now)
 
 choose-refusal-requires : tie.Need-choose-refusal-requires
 choose-refusal-requires c κs = tt

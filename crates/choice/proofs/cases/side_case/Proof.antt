@@ -1,7 +1,8 @@
 -- `side_case` meets its contract: the number comes from the marks of three corners. Assumes nothing.
 use native.Mathlib.Omega.{arith}
 use borrow.Author.Needs.{needs}
-use Rattle.sides.proofs.SideLaws.{corner-64}
+use Rattle.pattern.specs.Words.{patternNumber}
+use Rattle.sides.proofs.SideLaws.{corner-256}
 use Rattle.choice.proofs.CaseLaws.{case-by}
 use Rattle.choice.proofs.cases.side_case.Statement.{statement}
 use Rattle.choice.proofs.cases.side_case.Tie as tie
@@ -25,7 +26,7 @@ sub-mark-at-2 : tie.Need-sub-mark-at-2
 sub-mark-at-2 c = search needs
 
 mul-mark-at : tie.Need-mul-mark-at
-mul-mark-at c = omega (arith, corner-64 _ (c .before .before .before .before .pre .1))
+mul-mark-at c = omega (arith, corner-256 _ (c .before .before .before .before .pre .1))
 
 mark-at-requires-3 : tie.Need-mark-at-requires-3
 mark-at-requires-3 c κs = search needs
@@ -49,7 +50,7 @@ returns : tie.Need-returns
 returns c =
     let first = c .before .before .before .before in
     let a = first .before .before .args in (
-      case-by (a .n) (a .word) (a .m) (first .before .mark-at .ensures) (c .before .before .before .mark-at2 .ensures) (c .before .mark-at3 .ensures)
+      case-by (a .n) (patternNumber (a .p)) (a .m) (first .before .mark-at .ensures) (c .before .before .before .mark-at2 .ensures) (c .before .mark-at3 .ensures)
           (first .differing .ensures .0) (c .before .before .differing2 .ensures .0) (c .differing3 .ensures .0),
       omega (arith, first .differing .ensures .1, c .before .before .differing2 .ensures .1, c .differing3 .ensures .1),
     )

@@ -1,25 +1,25 @@
--- `below_layers` meets its contract: the layers up to v are there. Assumes nothing.
+-- `below_layers` meets its contract: the words before the next are there. Assumes nothing.
 use native.Mathlib.Omega.{arith}
 use borrow.Author.Needs.{needs}
 use Prim.Native.Nat.{_+_, _-_, _≤_}
 use mathlib.Core.Path.{_≡_, refl}
-use lib.ListN.{length, replicate, length-set}
-use Rattle.side_cost.specs.Layers.{BelowLayers}
-use Rattle.side_cost.proofs.BuildLaws.{below-first, below-fits, below-more}
+use lib.ListN.{length, replicate, length-set, getD-replicate}
+use Rattle.side_cost.specs.Layers.{BelowWords}
+use Rattle.side_cost.proofs.BuildLaws.{below-first, below-fits, below-more, below-joined}
 use Rattle.choice.proofs.layers.below_layers.Statement.{statement}
 use Rattle.choice.proofs.layers.below_layers.Tie as tie
 
 abbrev Inv-loop : tie.InvT-loop
-Inv-loop samples equal layers₀ v₀ layers v = (v ≤ 256) × (length layers ≡ 257) × BelowLayers (v + 1) samples layers
+Inv-loop samples equal layers₀ at₀ layers at = (at ≤ 1024) × (length layers ≡ 1028) × BelowWords (at + 4) samples layers
 
 abbrev μ-loop : tie.MeasureT-loop
-μ-loop samples equal layers₀ v₀ layers v = 256 - v
+μ-loop samples equal layers₀ at₀ layers at = 1024 - at
 
 equal-layers-requires : tie.Need-equal-layers-requires Inv-loop μ-loop
 equal-layers-requires c κs = search needs
 
 loop-holds : tie.Need-loop-holds Inv-loop μ-loop
-loop-holds c = (omega arith, refl, below-first (c .before .before .args .samples .now) (c .before .before .pre) (replicate 257 0) refl)
+loop-holds c = (omega arith, refl, below-first (c .before .before .args .samples .now) (replicate 1028 0) (λ a h. getD-replicate 1028 a 0 0 (omega arith)))
 
 mul-layers : tie.Need-mul-layers Inv-loop μ-loop
 mul-layers c = search needs
@@ -37,7 +37,7 @@ add-layers : tie.Need-add-layers Inv-loop μ-loop
 add-layers c =
     let s = c .before .before .before .before in
     let l = c .before .loop in
-    record { fits = below-fits (s .args .samples .now) (s .pre) (l .v) _ _ (l .layers) (l .inv .2) refl (c .before .before .equal-layers .ensures .1 (l .v) (omega arith)) }
+    record { fits = below-fits (s .args .samples .now) (l .at) _ _ (l .layers) (l .inv .2) refl (c .before .before .equal-layers .ensures .1 (l .at) (omega arith)) }
 
 add-layers-2 : tie.Need-add-layers-2 Inv-loop μ-loop
 add-layers-2 c = search needs
@@ -48,8 +48,8 @@ mul-layers-3 c = search needs
 array-write-layers : tie.Need-array-write-layers Inv-loop μ-loop
 array-write-layers c = search needs
 
-add-v : tie.Need-add-v Inv-loop μ-loop
-add-v c = search needs
+add-at : tie.Need-add-at Inv-loop μ-loop
+add-at c = search needs
 
 loop-less : tie.Need-loop-less Inv-loop μ-loop
 loop-less c = search needs
@@ -60,13 +60,14 @@ loop-again c =
     let l = c .before .loop in (
       omega arith,
       simp length-set (l .inv .1),
-      below-more (s .args .samples .now) (s .pre) (l .v) _ _ (l .layers) (l .inv .2) refl (c .before .before .equal-layers .ensures .1 (l .v) (omega arith)) (omega arith),
+      below-more (s .args .samples .now) (l .at) _ _ (l .layers) (l .inv .2) refl (c .before .before .equal-layers .ensures .1 (l .at) (omega arith)) (omega arith),
     )
 
 returns : tie.Need-returns Inv-loop μ-loop
 returns c =
+    let s = c .before .before .before .before in
     let l = c .before .loop in
-    λ v h. l .inv .2 v (omega arith)
+    below-joined (s .args .samples .now) (s .pre) (l .layers) (λ a h. l .inv .2 a (omega arith))
 
 pub below-layers-spec : {M : Type 1} → statement M
 below-layers-spec =
@@ -84,7 +85,7 @@ below-layers-spec =
     add-layers-2
     mul-layers-3
     array-write-layers
-    add-v
+    add-at
     loop-less
     loop-again
     returns)

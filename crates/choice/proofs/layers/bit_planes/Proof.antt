@@ -1,19 +1,21 @@
--- `bit_planes` meets its contract: the first b planes are there. Assumes nothing.
+-- `bit_planes` meets its contract: the words so far are there. Assumes nothing.
 use native.Mathlib.Omega.{arith}
 use borrow.Author.Needs.{needs}
-use Prim.Native.Nat.{_-_, _≤_}
+use Prim.Native.Nat.{_-_, _/_, _%_, _≤_}
 use mathlib.Core.Path.{_≡_}
-use lib.ListN.{length, length-set}
+use lib.ListN.{length, getD, length-set}
+use Rattle.arith.specs.Bits.{testBit}
 use Rattle.arith.proofs.ListLaws.{stored}
-use Rattle.side_cost.specs.Layers.{planeWord, BitPlanes}
+use Rattle.side_cost.specs.Layers.{wordOf, PlaneWords}
+use Rattle.side_cost.proofs.BuildLaws.{planes-joined}
 use Rattle.choice.proofs.layers.bit_planes.Statement.{statement}
 use Rattle.choice.proofs.layers.bit_planes.Tie as tie
 
 abbrev Inv-loop : tie.InvT-loop
-Inv-loop samples layers₀ b₀ layers b = (b ≤ 8) × (length layers ≡ 8) × BitPlanes b samples layers
+Inv-loop samples layers₀ at₀ layers at = (at ≤ 32) × (length layers ≡ 32) × PlaneWords at samples layers
 
 abbrev μ-loop : tie.MeasureT-loop
-μ-loop samples layers₀ b₀ layers b = 8 - b
+μ-loop samples layers₀ at₀ layers at = 32 - at
 
 loop-holds : tie.Need-loop-holds Inv-loop μ-loop
 loop-holds c = search needs
@@ -30,8 +32,8 @@ mul-layers c = search needs
 array-write-layers : tie.Need-array-write-layers Inv-loop μ-loop
 array-write-layers c = search needs
 
-add-b : tie.Need-add-b Inv-loop μ-loop
-add-b c = search needs
+add-at : tie.Need-add-at Inv-loop μ-loop
+add-at c = search needs
 
 loop-less : tie.Need-loop-less Inv-loop μ-loop
 loop-less c = search needs
@@ -42,13 +44,14 @@ loop-again c =
     let l = c .before .before .loop in (
       omega arith,
       simp length-set (l .inv .1),
-      stored (λ b. planeWord (length (a .samples .now)) (a .samples .now) (7 - b)) 0 (l .layers) (l .b) (c .plane .result) (omega arith) (c .plane .ensures) (l .inv .2),
+      stored (λ t. wordOf (λ k. testBit (getD (a .samples .now) k 0) (7 - t % 8)) (length (a .samples .now)) (t / 8)) 0 (l .layers) (l .at) (c .plane .result) (omega arith) (c .plane .ensures) (l .inv .2),
     )
 
 returns : tie.Need-returns Inv-loop μ-loop
 returns c =
+    let s = c .before .before .before in
     let l = c .before .loop in
-    λ b h. l .inv .2 b (omega arith)
+    planes-joined (s .args .samples .now) (s .pre) (l .layers) (λ a h. l .inv .2 a (omega arith))
 
 pub bit-planes-spec : {M : Type 1} → statement M
 bit-planes-spec =
@@ -61,7 +64,7 @@ bit-planes-spec =
     plane-requires
     mul-layers
     array-write-layers
-    add-b
+    add-at
     loop-less
     loop-again
     returns)

@@ -1,56 +1,75 @@
--- `plane` meets its contract: after k samples the word has the first k bits. Assumes nothing.
+-- `plane` meets its contract: after j samples the word has the first j bits. Assumes nothing.
 use native.Mathlib.Omega.{arith}
 use borrow.Author.Needs.{needs}
-use Prim.Native.Nat.{ℕ, _-_, _≤_}
+use borrow.Author.Tests.{eq-eqb, ne-eqb}
+use Prim.Native.Nat.{_+_, _-_, _*_, _/_, _%_, _^_, _≤_, min}
+use mathlib.Core.Logic.{⊎-elim}
 use mathlib.Core.Path.{_≡_, ap, _∙_}
 use lib.ListN.{length, getD}
 use Rattle.arith.specs.Bits.{bits, testBit}
-use Rattle.arith.proofs.BitLaws.{bits-lt, bits-more}
-use Rattle.pattern.proofs.SizeLaws.{with-bit-free}
-use Rattle.side_cost.specs.Layers.{planeWord}
+use Rattle.arith.proofs.BitLaws.{bits-on, bits-off, room-above}
 use Rattle.choice.proofs.layers.plane.Statement.{statement}
 use Rattle.choice.proofs.layers.plane.Tie as tie
 
 abbrev Inv-loop : tie.InvT-loop
-Inv-loop samples b word₀ k₀ k-end word k = (k ≤ length samples) × (word ≡ planeWord k samples b)
+Inv-loop samples i b count word₀ j₀ word j = (j ≤ count) × (word ≡ bits (λ k. testBit (getD samples (64 * i + k) 0) b) j)
 
 abbrev μ-loop : tie.MeasureT-loop
-μ-loop samples b word₀ k₀ k-end word k = length samples - k
+μ-loop samples i b count word₀ j₀ word j = count - j
+
+in-word-requires : tie.Need-in-word-requires Inv-loop μ-loop
+in-word-requires c κs = search needs
 
 loop-holds : tie.Need-loop-holds Inv-loop μ-loop
 unfolding bits
 loop-holds c = search needs
 
-shared-slice-read-wide-word : tie.Need-shared-slice-read-wide-word Inv-loop μ-loop
-shared-slice-read-wide-word c = search needs
+mul-wide : tie.Need-mul-wide Inv-loop μ-loop
+mul-wide c = search needs
 
-wide-word-requires : tie.Need-wide-word-requires Inv-loop μ-loop
-wide-word-requires c κs = tt
+add-wide : tie.Need-add-wide Inv-loop μ-loop
+add-wide c = search needs
 
-mark-at-requires : tie.Need-mark-at-requires Inv-loop μ-loop
-mark-at-requires c κs = tt
+shared-slice-read-wide : tie.Need-shared-slice-read-wide Inv-loop μ-loop
+shared-slice-read-wide c = search needs
 
-with-bit-requires : tie.Need-with-bit-requires Inv-loop μ-loop
-with-bit-requires c κs = tt
+wide-requires : tie.Need-wide-requires Inv-loop μ-loop
+wide-requires c κs = tt
 
-add-k : tie.Need-add-k Inv-loop μ-loop
-add-k c = search needs
+shr-if1 : tie.Need-shr-if1 Inv-loop μ-loop
+shr-if1 c = search needs
+
+shl-word : tie.Need-shl-word Inv-loop μ-loop
+shl-word c = search needs
+
+add-word : tie.Need-add-word Inv-loop μ-loop
+add-word c = let l = c .before .before .before .before .loop in record { fits = room-above _ (l .j) (omega arith) (l .inv .1) }
+
+add-j : tie.Need-add-j Inv-loop μ-loop
+add-j c = search needs
 
 loop-less : tie.Need-loop-less Inv-loop μ-loop
 loop-less c = search needs
 
 loop-again : tie.Need-loop-again Inv-loop μ-loop
 loop-again c =
+    let l = c .before .before .before .before .loop in
     let a = c .before .before .before .before .before .before .before .args in
-    let l = c .before .before .before .before .before .loop in
-    let e = l .inv .1 in
-    (omega arith, bits-more (λ i. testBit (getD (a .samples .now) i 0) (a .b)) (l .k) e (c .before .mark-at .ensures ∙ ap (λ (x : ℕ). testBit x (a .b)) (c .before .before .wide-word .ensures)) (c .with-bit .ensures ∙ with-bit-free (l .word) (l .k) (c .before .mark-at .result) (omega arith) (rw e (bits-lt _ (l .k)))))
+    let v = getD (a .samples .now) (64 * a .i + l .j) 0 in
+    let e : c .before .wide .result ≡ v = c .before .wide .ensures .0 in (
+      omega arith,
+      ⊎-elim
+          (λ w. bits-on _ (l .j) (omega arith) (l .inv .1) (eq-eqb (v / 2 ^ a .b % 2) 1 (rw (← e) (w .0 .taken))) (w .1))
+          (λ w. bits-off _ (l .j) (l .inv .1) (ne-eqb (v / 2 ^ a .b % 2) 1 (rw (← e) (w .0 .left))) (w .1))
+          (c .if1 .came),
+    )
 
 returns : tie.Need-returns Inv-loop μ-loop
 returns c =
-    let a = c .before .before .before .args in
-    let e : c .before .loop .k ≡ length (a .samples .now) = omega arith in
-    c .before .loop .inv .1 ∙ ap (λ (k : ℕ). planeWord k (a .samples .now) (a .b)) e
+    let a = c .before .before .before .before .args in
+    let l = c .before .loop in
+    let e : l .j ≡ min 64 (length (a .samples .now) - 64 * a .i) = omega (arith, c .before .before .in-word .ensures) in
+    l .inv .1 ∙ ap (bits _) e
 
 pub plane-spec : {M : Type 1} → statement M
 plane-spec =
@@ -58,12 +77,16 @@ plane-spec =
     (tie.spec
     Inv-loop
     μ-loop
+    in-word-requires
     loop-holds
-    shared-slice-read-wide-word
-    wide-word-requires
-    mark-at-requires
-    with-bit-requires
-    add-k
+    mul-wide
+    add-wide
+    shared-slice-read-wide
+    wide-requires
+    shr-if1
+    shl-word
+    add-word
+    add-j
     loop-less
     loop-again
     returns)

@@ -2,40 +2,51 @@
 use native.Mathlib.Omega.{arith}
 use borrow.Author.Needs.{needs}
 use Prim.Native.Nat.{ℕ, _+_, _-_, _*_, _≤_, _<_, min}
-use mathlib.Core.Bool.{true}
 use mathlib.Core.Path.{_≡_, ap, _∙_}
 use mathlib.Core.Logic.{_⊎_, inl, inr, ⊎-elim}
 use lib.Bits.{bitAnd}
 use lib.Count.{ones}
+use lib.Dec.{ltb}
 use lib.ListN.{length, getD}
-use Rattle.side_cost.specs.Cost.{sideCost}
-use Rattle.side_cost.specs.Layers.{Parted}
+use Rattle.pattern.specs.Words.{patternNumber}
+use Rattle.side_cost.specs.Layers.{layerAt, Fits, Parted}
 use Rattle.side_cost.specs.Turn.{twice}
-use Rattle.side_cost.proofs.LayerLaws.{size-count}
-use Rattle.side_cost.proofs.FindLaws.{twice-by, last-in, end-in, up-found, down-found, here-found}
+use Rattle.side_cost.proofs.LayerLaws.{size-count, fits-block}
+use Rattle.side_cost.proofs.FindLaws.{cost-by, twice-by, last-in, end-in, up-found, down-found, here-found}
 use Rattle.choice.proofs.offsets.best_of_part.Statement.{statement}
 use Rattle.choice.proofs.offsets.best_of_part.Tie as tie
 
--- the part
-parted : (s : tie.Start) → let a = s .args in Parted (a .samples .now) (a .below .now) (a .planes .now) (a .word) (ones (a .word))
-parted s =
+-- the part, and that it fits in the words that are counted
+parted : (z : tie.After-size-of) →
+    let a = z .before .before .before .args in
+    Parted (a .samples .now) (a .below .now) (a .planes .now) (patternNumber (a .marks)) (z .size-of .result)
+parted z =
+    let s = z .before .before .before in
     let a = s .args in
-    record { layers = s .pre .0; small = s .pre .1; its-size = size-count (length (a .samples .now)) (a .samples .now) (a .word) (s .pre .1) }
+    record { layers = s .pre .0; small = s .pre .1; its-size = z .size-of .ensures .0 ∙ size-count (length (a .samples .now)) (a .samples .now) (patternNumber (a .marks)) (s .pre .1) }
+
+fits : (s : tie.Start) → Fits (ltb 64 (length (s .args .samples .now))) (patternNumber (s .args .marks))
+fits s = fits-block (length (s .args .samples .now)) (patternNumber (s .args .marks)) (s .pre .0 .few) (s .pre .1)
 
 -- what the two tests say
-fewer-up : (w : tie.After-wide) {n : ℕ} →
-    let a = w .before .before .before .before .before .before .args in
-    n ≡ ones (bitAnd (a .word) (getD (a .below .now) (w .wide .result + 1) 0)) → 2 * n < ones (a .word) → twice (a .below .now) (a .word) (a .table .now) 1 (a .index .0) < ones (a .word)
+fewer-up : (w : tie.After-wide) {n size : ℕ} →
+    let a = w .before .before .before .before .before .before .before .args in
+    n ≡ ones (bitAnd (patternNumber (a .marks)) (layerAt (a .below .now) (w .wide .result + 1))) → 2 * n < size
+    → twice (a .below .now) (patternNumber (a .marks)) (a .table .now) 1 (a .index .0) < size
 fewer-up w e h =
-    let a = w .before .before .before .before .before .before .args in
-    omega (arith, twice-by (a .below .now) (a .word) (a .table .now) 1 (a .index .0) e (ap (λ (x : ℕ). x + 1) (w .wide .ensures .0)))
+    let a = w .before .before .before .before .before .before .before .args in
+    omega (arith, twice-by (a .below .now) (patternNumber (a .marks)) (a .table .now) 1 (a .index .0) e (ap (λ (x : ℕ). x + 1) (w .wide .ensures .0)))
 
-more-down : (w : tie.After-wide) {n : ℕ} →
-    let a = w .before .before .before .before .before .before .args in
-    n ≡ ones (bitAnd (a .word) (getD (a .below .now) (w .wide .result) 0)) → ones (a .word) < 2 * n → ones (a .word) < twice (a .below .now) (a .word) (a .table .now) 0 (a .index .0)
+more-down : (w : tie.After-wide) {n size : ℕ} →
+    let a = w .before .before .before .before .before .before .before .args in
+    n ≡ ones (bitAnd (patternNumber (a .marks)) (layerAt (a .below .now) (w .wide .result))) → size < 2 * n
+    → size < twice (a .below .now) (patternNumber (a .marks)) (a .table .now) 0 (a .index .0)
 more-down w e h =
-    let a = w .before .before .before .before .before .before .args in
-    omega (arith, twice-by (a .below .now) (a .word) (a .table .now) 0 (a .index .0) e (let v : w .wide .result ≡ getD (a .table .now) (a .index .0) 0 + 0 = omega (arith, w .wide .ensures .0) in v))
+    let a = w .before .before .before .before .before .before .before .args in
+    omega (arith, twice-by (a .below .now) (patternNumber (a .marks)) (a .table .now) 0 (a .index .0) e (let v : w .wide .result ≡ getD (a .table .now) (a .index .0) 0 + 0 = omega (arith, w .wide .ensures .0) in v))
+
+size-of-requires : tie.Need-size-of-requires
+size-of-requires c κs = fits (c .before .before)
 
 sub-lesser : tie.Need-sub-lesser
 sub-lesser c = search needs
@@ -65,7 +76,9 @@ add-count-below : tie.Need-add-count-below
 add-count-below c = search needs
 
 count-below-requires : tie.Need-count-below-requires
-count-below-requires c κs = search needs
+count-below-requires c κs =
+    let w = c .before in
+    (fits (w .before .before .before .before .before .before .before), omega (arith, w .wide .ensures .1))
 
 mul-if2 : tie.Need-mul-if2
 mul-if2 c = search needs
@@ -73,24 +86,28 @@ mul-if2 c = search needs
 best-up-requires : tie.Need-best-up-requires
 best-up-requires c κs =
     let w = c .before .before .before in
-    let s = w .before .before .before .before .before .before in
+    let z = w .before .before .before .before in
+    let s = z .before .before .before in
     let falls = fewer-up w (c .before .count-below .ensures .0) (c .if2 .taken) in
-    (parted s, s .pre .2 .sound, c .before .before .if1 .taken, omega (arith, s .pre .2 .inside, w .before .before .before .lesser .ensures), falls)
+    (parted z, fits s, s .pre .2 .sound, c .before .before .if1 .taken, omega (arith, s .pre .2 .inside, w .before .before .before .lesser .ensures), falls)
 
 returns : tie.Need-returns
 returns c =
     let w = c .before .before .before .before in
-    let s = w .before .before .before .before .before .before in
+    let z = w .before .before .before .before in
+    let s = z .before .before .before in
     let a = s .args in
     let last = ap (λ (x : ℕ). a .index .0 + x) (w .before .before .before .lesser .ensures) ∙ last-in (length (a .table .now)) (a .index .0) (a .reach) (s .pre .2 .inside) in (
-      up-found _ _ _ _ _ (parted s) (a .table .now) (a .index .0) (a .reach) (s .pre .2) last
+      up-found _ _ _ _ _ (parted z) (a .table .now) (a .index .0) (a .reach) (s .pre .2) last
           (fewer-up w (c .before .before .count-below .ensures .0) (c .before .if2 .taken))
           (c .best-up .ensures .0),
       c .best-up .ensures .1,
     )
 
 count-below-requires-2 : tie.Need-count-below-requires-2
-count-below-requires-2 c κs = search needs
+count-below-requires-2 c κs =
+    let w = c .before .before in
+    (fits (w .before .before .before .before .before .before .before), omega (arith, w .wide .ensures .1))
 
 mul-if4 : tie.Need-mul-if4
 mul-if4 c = search needs
@@ -98,18 +115,20 @@ mul-if4 c = search needs
 best-down-requires : tie.Need-best-down-requires
 best-down-requires c κs =
     let w = c .before .before .before .before in
-    let s = w .before .before .before .before .before .before in
+    let z = w .before .before .before .before in
+    let s = z .before .before .before in
     let rises = more-down w (c .before .count-below2 .ensures .0) (c .if4 .taken) in
-    (parted s, s .pre .2 .sound, c .before .before .if3 .taken, s .pre .2 .inside, rises)
+    (parted z, fits s, s .pre .2 .sound, c .before .before .if3 .taken, s .pre .2 .inside, rises)
 
 returns-2 : tie.Need-returns-2
 returns-2 c =
     let w = c .before .before .before .before .before in
-    let s = w .before .before .before .before .before .before in
+    let z = w .before .before .before .before in
+    let s = z .before .before .before in
     let a = s .args in
     let end = ap (λ (x : ℕ). a .index .0 - x) (w .before .before .lesser2 .ensures) ∙ end-in (a .index .0) (a .reach) in
     let value : w .wide .result ≡ getD (a .table .now) (a .index .0) 0 + 0 = omega (arith, w .wide .ensures .0) in (
-      down-found _ _ _ _ _ (parted s) (a .table .now) (a .index .0) (a .reach) (s .pre .2) end
+      down-found _ _ _ _ _ (parted z) (a .table .now) (a .index .0) (a .reach) (s .pre .2) end
           (more-down w (c .before .before .count-below2 .ensures .0) (c .before .if4 .taken))
           (c .best-down .ensures .0),
       c .best-down .ensures .1,
@@ -118,32 +137,33 @@ returns-2 c =
 cost-at-requires : tie.Need-cost-at-requires
 cost-at-requires c κs =
     let w = c .before .before in
-    (parted (w .before .before .before .before .before .before), omega (arith, w .wide .ensures .1))
+    (parted (w .before .before .before .before), fits (w .before .before .before .before .before .before .before), omega (arith, w .wide .ensures .1))
 
 returns-3 : tie.Need-returns-3
 returns-3 c =
     let w = c .before .before .before in
-    let s = w .before .before .before .before .before .before in
+    let z = w .before .before .before .before in
+    let s = z .before .before .before in
     let a = s .args in
     let i = a .index .0 in
-    let size = ones (a .word) in
+    let size = z .size-of .result in
     let last = ap (λ (x : ℕ). a .index .0 + x) (w .before .before .before .lesser .ensures) ∙ last-in (length (a .table .now)) (a .index .0) (a .reach) (s .pre .2 .inside) in
     let end = ap (λ (x : ℕ). a .index .0 - x) (w .before .before .lesser2 .ensures) ∙ end-in (a .index .0) (a .reach) in
     let value : w .wide .result ≡ getD (a .table .now) (a .index .0) 0 + 0 = omega (arith, w .wide .ensures .0) in
-    let up : (min (i + a .reach) (length (a .table .now) - 1) ≤ i) ⊎ (size ≤ twice (a .below .now) (a .word) (a .table .now) 1 i) =
+    let up : (min (i + a .reach) (length (a .table .now) - 1) ≤ i) ⊎ (size ≤ twice (a .below .now) (patternNumber (a .marks)) (a .table .now) 1 i) =
     ⊎-elim
-    (λ x. inr (omega (arith, x .2 .left, twice-by (a .below .now) (a .word) (a .table .now) 1 (a .index .0) (x .1 .ensures .0) (ap (λ (y : ℕ). y + 1) (w .wide .ensures .0)))))
+    (λ x. inr (omega (arith, x .2 .left, twice-by (a .below .now) (patternNumber (a .marks)) (a .table .now) 1 (a .index .0) (x .1 .ensures .0) (ap (λ (y : ℕ). y + 1) (w .wide .ensures .0)))))
     (λ x. inl (omega (arith, x .left, last)))
     (c .before .before .if1 .came)
     in
-    let down : (i ≤ i - a .reach) ⊎ (twice (a .below .now) (a .word) (a .table .now) 0 i ≤ size) =
+    let down : (i ≤ i - a .reach) ⊎ (twice (a .below .now) (patternNumber (a .marks)) (a .table .now) 0 i ≤ size) =
     ⊎-elim
-    (λ x. inr (omega (arith, x .2 .left, twice-by (a .below .now) (a .word) (a .table .now) 0 (a .index .0) (x .1 .ensures .0) value)))
+    (λ x. inr (omega (arith, x .2 .left, twice-by (a .below .now) (patternNumber (a .marks)) (a .table .now) 0 (a .index .0) (x .1 .ensures .0) value)))
     (λ x. inl (omega (arith, x .left, end)))
     (c .before .if3 .came)
     in (
-      here-found _ _ _ _ _ (parted s) (a .table .now) (a .index .0) (a .reach) (s .pre .2) up down
-          (c .cost-at .ensures .0 ∙ ap (sideCost (length (a .samples .now)) (a .samples .now) (a .word) true) (w .wide .ensures .0)),
+      here-found _ _ _ _ _ (parted z) (a .table .now) (a .index .0) (a .reach) (s .pre .2) up down
+          (cost-by (a .samples .now) (patternNumber (a .marks)) (c .cost-at .ensures .0) (w .wide .ensures .0)),
       c .cost-at .ensures .1,
     )
 
@@ -151,6 +171,7 @@ pub best-of-part-spec : {M : Type 1} → statement M
 best-of-part-spec =
     tie.close
     (tie.spec
+    size-of-requires
     sub-lesser
     sub-lesser-2
     lesser-requires

@@ -2,18 +2,17 @@
 use native.Mathlib.Omega.{arith}
 use borrow.Author.Needs.{needs}
 use Prim.Native.Nat.{_+_}
-use mathlib.Core.Bool.{true}
 use mathlib.Core.Logic.{inl}
-use mathlib.Core.Path.{_≡_, refl, ap, _∙_}
-use lib.ListN.{length, getD}
+use mathlib.Core.Path.{_≡_, refl}
+use lib.ListN.{getD}
 use Rattle.depth_table.proofs.TableLaws.{table-counts}
-use Rattle.side_cost.specs.Cost.{sideCost}
-use Rattle.side_cost.proofs.FindLaws.{better-by, better-small, up-adjacent}
+use Rattle.pattern.specs.Words.{patternNumber}
+use Rattle.side_cost.proofs.FindLaws.{cost-by, better-by, better-small, up-adjacent}
 use Rattle.choice.proofs.offsets.best_up.Statement.{statement}
 use Rattle.choice.proofs.offsets.best_up.Tie as tie
 
 turn-requires : tie.Need-turn-requires
-turn-requires c κs = let s = c .before .before in (omega arith, s .pre .2, s .pre .3, table-counts _ (s .pre .1) .1)
+turn-requires c κs = let s = c .before .before in (s .pre .1, omega arith, s .pre .3, s .pre .4, table-counts _ (s .pre .2) .1)
 
 add-next : tie.Need-add-next
 add-next c = search needs
@@ -50,9 +49,9 @@ returns c =
     let s = t .before .before .before in
     let a = s .args in
     let l = t .turn .result in
-    let far = c .before .cost-at .ensures .0 ∙ ap (sideCost (length (a .samples .now)) (a .samples .now) (a .part .word) true) (w2 .wide2 .ensures .0) in
+    let far = cost-by (a .samples .now) (patternNumber (a .part .marks)) (c .before .cost-at .ensures .0) (w2 .wide2 .ensures .0) in
     let next : getD (a .table .now) (l + 1) 0 ≡ getD (a .table .now) l 0 + 1 = omega (arith, c .if1 .taken, w1 .wide .ensures .0, w2 .wide2 .ensures .0) in
-    let less = up-adjacent _ _ _ _ _ (s .pre .0) (a .table .now) (a .at) 0 (record { sound = s .pre .1; inside = omega arith; near = omega arith }) l (a .last) (s .pre .4) (t .turn .ensures) next in
+    let less = up-adjacent _ _ _ _ _ (s .pre .0) (a .table .now) (a .at) 0 (record { sound = s .pre .2; inside = omega arith; near = omega arith }) l (a .last) (s .pre .5) (t .turn .ensures) next in
     (record { l = l; turned = t .turn .ensures; better = inl (less, refl, far) }, c .before .cost-at .ensures .1)
 
 cost-at-requires-2 : tie.Need-cost-at-requires-2
@@ -74,9 +73,8 @@ returns-2 c =
     let w1 = w2 .before .before in
     let t = w1 .before .before in
     let a = t .before .before .before .args in
-    let cost = sideCost (length (a .samples .now)) (a .samples .now) (a .part .word) true in
-    let far = one .cost-at .ensures .0 ∙ ap cost (w2 .wide2 .ensures .0) in
-    let near = c .before .cost-at2 .ensures .0 ∙ ap cost (w1 .wide .ensures .0) in
+    let far = cost-by (a .samples .now) (patternNumber (a .part .marks)) (one .cost-at .ensures .0) (w2 .wide2 .ensures .0) in
+    let near = cost-by (a .samples .now) (patternNumber (a .part .marks)) (c .before .cost-at2 .ensures .0) (w1 .wide .ensures .0) in
     (record { l = t .turn .result; turned = t .turn .ensures; better = better-by near far (c .better .ensures) }, better-small (c .before .cost-at2 .ensures .1) (one .cost-at .ensures .1) (c .better .ensures))
 
 pub best-up-spec : {M : Type 1} → statement M

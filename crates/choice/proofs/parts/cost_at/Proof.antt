@@ -3,6 +3,7 @@ use native.Mathlib.Omega.{arith}
 use borrow.Author.Needs.{needs}
 use mathlib.Core.Bool.{true}
 use lib.ListN.{length}
+use Rattle.pattern.specs.Words.{patternNumber}
 use Rattle.side_cost.specs.Cost.{sideCost}
 use Rattle.side_cost.proofs.BuildLaws.{Sums, sums-at}
 use Rattle.choice.proofs.parts.cost_at.Statement.{statement}
@@ -11,11 +12,11 @@ use Rattle.choice.proofs.parts.cost_at.Tie as tie
 -- the sums at v
 facts : (c : tie.After-flipped-sum) →
     let a = c .before .before .before .args in
-    Sums (a .v) (c .before .count-below .result) (a .part .size) (c .flipped-sum .result) (sideCost (length (a .samples .now)) (a .samples .now) (a .part .word) true (a .v))
+    Sums (a .v) (c .before .count-below .result) (a .part .size) (c .flipped-sum .result) (sideCost (length (a .samples .now)) (a .samples .now) (patternNumber (a .part .marks)) true (a .v))
 facts c =
     let k = c .before .before in
     let s = k .before in
-    rw (c .before .count-below .ensures .0, c .flipped-sum .ensures) (sums-at _ _ _ _ _ (s .pre .0) (s .args .v) (s .pre .1) (λ i. k .shared-slice-known .given i .fits))
+    rw (c .before .count-below .ensures .0, c .flipped-sum .ensures) (sums-at _ _ _ _ _ (s .pre .0) (s .args .v) (s .pre .2) (λ i. k .shared-slice-known .given i .fits))
 
 cast-value : tie.Need-cast-value
 cast-value c = search needs

@@ -1,50 +1,54 @@
 -- `flipped_sum` meets its contract: after b bits the sum is that of the samples without their lowest 8 - b bits. Assumes nothing.
 use native.Mathlib.Omega.{arith}
 use borrow.Author.Needs.{needs}
-use Prim.Native.Nat.{_-_, _≤_}
-use mathlib.Core.Path.{_≡_, ap, _∙_}
+use Prim.Native.Nat.{ℕ, _-_, _≤_}
+use mathlib.Core.Path.{_≡_, ap, ap₂, _∙_}
+use lib.Bits.{bitAnd, bitXor}
+use lib.Count.{ones}
 use lib.ListN.{length}
+use Rattle.pattern.specs.Words.{patternNumber}
 use Rattle.side_cost.specs.Layers.{flipped, partSum}
 use Rattle.side_cost.proofs.BuildLaws.{sum-turn, sum-small, sum-none}
 use Rattle.choice.proofs.parts.flipped_sum.Statement.{statement}
 use Rattle.choice.proofs.parts.flipped_sum.Tie as tie
 
 abbrev Inv-loop : tie.InvT-loop
-Inv-loop samples below planes word v layer sum₀ b₀ sum b = (b ≤ 8) × (sum ≡ partSum (length samples) (flipped samples v) word (8 - b))
+Inv-loop samples below planes v marks wide layer sum₀ b₀ sum b =
+    (b ≤ 8) × (sum ≡ partSum (length samples) (flipped samples v) (patternNumber marks) (8 - b))
 
 abbrev μ-loop : tie.MeasureT-loop
-μ-loop samples below planes word v layer sum₀ b₀ sum b = 8 - b
+μ-loop samples below planes v marks wide layer sum₀ b₀ sum b = 8 - b
 
 -- the sum is small
-small : (c : tie.In-loop Inv-loop μ-loop) → c .before .loop .sum ≤ 16320
+small : (c : tie.In-loop Inv-loop μ-loop) → c .before .loop .sum ≤ 65280
 small c =
-    let k = c .before .before .before in
+    let k = c .before .before .before .before in
     let p = k .before .pre in
-    omega (arith, c .before .loop .inv .1, sum-small _ _ _ (p .0) (λ i. k .shared-slice-known .given i .fits) _ (p .1) _ (p .2) (8 - c .before .loop .b))
+    omega (arith, c .before .loop .inv .1, sum-small _ _ _ (p .0) (λ i. k .shared-slice-known .given i .fits) _ (p .1) _ (p .3) (8 - c .before .loop .b))
 
-mul-layer : tie.Need-mul-layer Inv-loop μ-loop
-mul-layer c = search needs
-
-element-copy-out-layer : tie.Need-element-copy-out-layer Inv-loop μ-loop
-element-copy-out-layer c = search needs
+below-at-requires : tie.Need-below-at-requires Inv-loop μ-loop
+below-at-requires c κs = search needs
 
 loop-holds : tie.Need-loop-holds Inv-loop μ-loop
-loop-holds c = let k = c .before in let p = k .before .pre in (omega arith, sum-none _ _ _ (p .0) (λ i. k .shared-slice-known .given i .fits) _ (p .1) _ (p .2))
+loop-holds c =
+    let k = c .before .before in
+    let p = k .before .pre in
+    (omega arith, sum-none _ _ _ (p .0) (λ i. k .shared-slice-known .given i .fits) _ (p .1) _ (p .3))
 
 mul-sum : tie.Need-mul-sum Inv-loop μ-loop
 mul-sum c = omega (arith, small c)
 
-mul-common : tie.Need-mul-common Inv-loop μ-loop
-mul-common c = search needs
+plane-at-requires : tie.Need-plane-at-requires Inv-loop μ-loop
+plane-at-requires c κs = search needs
 
-element-copy-out-common : tie.Need-element-copy-out-common Inv-loop μ-loop
-element-copy-out-common c = search needs
+inverted-requires : tie.Need-inverted-requires Inv-loop μ-loop
+inverted-requires c κs = tt
 
 common-requires : tie.Need-common-requires Inv-loop μ-loop
-common-requires c κs = tt
+common-requires c κs = search needs
 
 add-sum : tie.Need-add-sum Inv-loop μ-loop
-add-sum c = omega (arith, small (c .before .before))
+add-sum c = omega (arith, small (c .before .before .before), c .common .ensures .1)
 
 add-b : tie.Need-add-b Inv-loop μ-loop
 add-b c = search needs
@@ -54,17 +58,21 @@ loop-less c = search needs
 
 loop-again : tie.Need-loop-again Inv-loop μ-loop
 loop-again c =
-    let l = c .before .before .before .loop in
-    let k = c .before .before .before .before .before in
+    let l = c .before .before .before .before .loop in
+    let d = c .before .before .before .before .before in
+    let k = d .before .before in
     let p = k .before .pre in
-    (omega arith, sum-turn _ _ _ (p .0) (λ i. k .shared-slice-known .given i .fits) _ (p .1) _ (p .2) (l .b) (omega arith) (l .inv .1) (c .common .ensures .0))
+    let w = patternNumber (k .before .args .part .marks) in
+    let layer = c .before .inverted .ensures ∙ ap₂ bitXor (c .before .before .plane-at .ensures) (d .below-at .ensures) in
+    let n = c .common .ensures .0 ∙ ap (λ (x : ℕ). ones (bitAnd w x)) layer in
+    (omega arith, sum-turn _ _ _ (p .0) (λ i. k .shared-slice-known .given i .fits) _ (p .1) _ (p .3) (l .b) (omega arith) (l .inv .1) n)
 
 returns : tie.Need-returns Inv-loop μ-loop
 returns c =
-    let a = c .before .before .before .before .args in
+    let a = c .before .before .before .before .before .args in
     let l = c .before .loop in
     let e : 8 - l .b ≡ 0 = omega arith in
-    l .inv .1 ∙ ap (partSum (length (a .samples .now)) (flipped (a .samples .now) (a .v)) (a .word)) e
+    l .inv .1 ∙ ap (partSum (length (a .samples .now)) (flipped (a .samples .now) (a .v)) (patternNumber (a .part .marks))) e
 
 pub flipped-sum-spec : {M : Type 1} → statement M
 flipped-sum-spec =
@@ -72,12 +80,11 @@ flipped-sum-spec =
     (tie.spec
     Inv-loop
     μ-loop
-    mul-layer
-    element-copy-out-layer
+    below-at-requires
     loop-holds
     mul-sum
-    mul-common
-    element-copy-out-common
+    plane-at-requires
+    inverted-requires
     common-requires
     add-sum
     add-b

@@ -7,7 +7,8 @@ use native.Mathlib.Omega.{arith}
 use borrow.Author.Needs.{needs}
 use lib.Dec.{ltb}
 use lib.ListN.{length}
-use Rattle.pattern.proofs.SizeLaws.{size-bounds, square-64}
+use Rattle.pattern.specs.Words.{patternsOf}
+use Rattle.pattern.proofs.SizeLaws.{size-bounds, square-256}
 use Rattle.choice_checks.specs.Case.{Case, caseOf}
 use Rattle.choice_checks.proofs.AcceptLaws.{Accepted, accepted}
 use Rattle.choice.specs.Picked.{Prepared}
@@ -17,7 +18,7 @@ use Rattle.choice.proofs.search.best_pattern.Tie as tie
 
 abbrev Inv-loop : tie.InvT-loop
 Inv-loop n list count border original table reach texture below planes indices contour end at₀ best₀ p₀ at best p =
-    (1 ≤ p) × (p ≤ end) × (end ≤ 10000) × KeptSides (caseOf n list count border original table reach texture) p at (best .trial0) (best .trial1) (best .cost)
+    (1 ≤ p) × (p ≤ end) × (end ≤ 10000) × KeptSides (caseOf n (patternsOf n list) count border original table reach texture) p at (best .trial0) (best .trial1) (best .cost)
 
 abbrev μ-loop : tie.MeasureT-loop
 μ-loop n list count border original table reach texture below planes indices contour end at₀ best₀ p₀ at best p = end - p
@@ -26,14 +27,14 @@ abbrev μ-loop : tie.MeasureT-loop
 abbrev given : (c : tie.Start Inv-loop μ-loop) → Case
 given c =
     let a = c .args in
-    caseOf (a .n) (a .list .now) (a .count) (a .border .now) (a .original .now) (a .table .now) (a .reach) (a .texture .now)
+    caseOf (a .n) (patternsOf (a .n) (a .list .now)) (a .count) (a .border .now) (a .original .now) (a .table .now) (a .reach) (a .texture .now)
 
 fine : (c : tie.Start Inv-loop μ-loop) → Accepted (given c)
 fine c = accepted (given c) (c .pre)
 
--- at most 64 samples
-few : (c : tie.Start Inv-loop μ-loop) → length (c .args .original .now) ≤ 64
-few c = omega (arith, fine c .lengths .square, square-64 {n = c .args .n} (size-bounds (c .args .n) (fine c .size) .1))
+-- at most 256 samples
+few : (c : tie.Start Inv-loop μ-loop) → length (c .args .original .now) ≤ 256
+few c = omega (arith, fine c .lengths .square, square-256 {n = c .args .n} (size-bounds (c .args .n) (fine c .size) .1))
 
 -- there are at most 10,000 patterns
 room : (c : tie.Start Inv-loop μ-loop) {last : ℕ} → last ≡ cond (ltb 0 (length (c .args .texture .now))) (c .args .count) (c .args .count - 1) → last + 1 ≤ 10000
@@ -69,14 +70,14 @@ last-pattern-requires c κs = tt
 add-end : tie.Need-add-end Inv-loop μ-loop
 add-end c = omega (arith, room (c .before .before .before .before .before .before .before .before .before .before) (c .last-pattern .ensures))
 
-pattern-at-requires : tie.Need-pattern-at-requires Inv-loop μ-loop
-pattern-at-requires c κs = fine (c .before .before .before .before .before .before .before .before .before .before) .lengths .inside
+pattern-by-requires : tie.Need-pattern-by-requires Inv-loop μ-loop
+pattern-by-requires c κs = tt
 
 best-sides-requires : tie.Need-best-sides-requires Inv-loop μ-loop
 best-sides-requires c κs =
     let a = c .before .before .before in
     let s = a .before .before .before .before .before .before .before .before .before .before .before in
-    (weighable (given s) (fine s) 0 _ (pattern-by (given s) 0 (a .pattern-at .ensures) (a .before .before .contour-or-none .ensures)), prepared (a .before .before .before))
+    (weighable (given s) (fine s) 0 _ (pattern-by (given s) 0 (a .pattern-by .ensures) (a .before .before .contour-or-none .ensures)), prepared (a .before .before .before))
 
 loop-holds : tie.Need-loop-holds Inv-loop μ-loop
 loop-holds c =
@@ -85,11 +86,11 @@ loop-holds c =
       omega arith,
       omega arith,
       room s (a .before .last-pattern .ensures),
-      sides-one (given s) (sides-at (given s) 0 (pattern-by (given s) 0 (a .pattern-at .ensures) (a .before .before .contour-or-none .ensures)) (c .best-sides .ensures)),
+      sides-one (given s) (sides-at (given s) 0 (pattern-by (given s) 0 (a .pattern-by .ensures) (a .before .before .contour-or-none .ensures)) (c .best-sides .ensures)),
     )
 
-pattern-at-requires-2 : tie.Need-pattern-at-requires-2 Inv-loop μ-loop
-pattern-at-requires-2 c κs = let s = c .before .before .before .before .before .before .before .before .before .before .before .before .before .before .before .before .before in fine s .lengths .inside
+pattern-by-requires-2 : tie.Need-pattern-by-requires-2 Inv-loop μ-loop
+pattern-by-requires-2 c κs = tt
 
 best-sides-requires-2 : tie.Need-best-sides-requires-2 Inv-loop μ-loop
 best-sides-requires-2 c κs =
@@ -97,7 +98,7 @@ best-sides-requires-2 c κs =
     let l = b .before .before in
     let a = l .before .before .before .before .before in
     let s = a .before .before .before .before .before .before .before .before .before .before .before in
-    (weighable (given s) (fine s) (l .loop .p) _ (pattern-by (given s) (l .loop .p) (b .pattern-at2 .ensures) (a .before .before .contour-or-none .ensures)), prepared (a .before .before .before))
+    (weighable (given s) (fine s) (l .loop .p) _ (pattern-by (given s) (l .loop .p) (b .pattern-by2 .ensures) (a .before .before .contour-or-none .ensures)), prepared (a .before .before .before))
 
 add-p : tie.Need-add-p Inv-loop μ-loop
 add-p c = omega arith
@@ -111,7 +112,7 @@ loop-again c =
     let l = b .before .before .loop in
     let a = b .before .before .before .before .before .before .before in
     let s = a .before .before .before .before .before .before .before .before .before .before .before in
-    let next = sides-at (given s) (l .p) (pattern-by (given s) (l .p) (b .pattern-at2 .ensures) (a .before .before .contour-or-none .ensures)) (c .before .before .before .best-sides2 .ensures) in (
+    let next = sides-at (given s) (l .p) (pattern-by (given s) (l .p) (b .pattern-by2 .ensures) (a .before .before .contour-or-none .ensures)) (c .before .before .before .best-sides2 .ensures) in (
       omega arith,
       omega arith,
       l .inv .2,
@@ -141,10 +142,10 @@ best-pattern-spec =
     contour-or-none-requires
     last-pattern-requires
     add-end
-    pattern-at-requires
+    pattern-by-requires
     best-sides-requires
     loop-holds
-    pattern-at-requires-2
+    pattern-by-requires-2
     best-sides-requires-2
     add-p
     loop-less

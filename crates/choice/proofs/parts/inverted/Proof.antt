@@ -1,0 +1,15 @@
+-- `inverted` meets its contract: word by word. Assumes nothing.
+use borrow.Author.Needs.{needs}
+use Rattle.side_cost.proofs.LayerLaws.{four-xor}
+use Rattle.choice.proofs.parts.inverted.Statement.{statement}
+use Rattle.choice.proofs.parts.inverted.Tie as tie
+
+returns : tie.Need-returns
+returns c =
+    let s : tie.Start = search needs in
+    let p = s .args .p in
+    let q = s .args .q in
+    four-xor (p .w0) (p .w1) (p .w2) (p .w3) (q .w0) (q .w1) (q .w2) (q .w3) (search needs) (search needs) (search needs) (search needs) (search needs) (search needs)
+
+pub inverted-spec : {M : Type 1} → statement M
+inverted-spec = tie.close (tie.spec returns)
