@@ -4,24 +4,18 @@ ghost use lib.Dec.{eqb, ltb};
 ghost use lib.ListN.{getD};
 ghost use Rattle.arith.specs.Checks.{unless};
 ghost use Rattle.pattern.specs.Size.{wordOk};
+ghost use Rattle.pattern.specs.Words.{patternsOf};
 ghost use Rattle.record_checks.specs.Meaning.{recordOf, kindRefusal, recordRefusal};
-
-// The word at a place of the list, 0 past its end.
-fn word_at(list: &[u64], at: usize) -> u64
-    ensures { λ r. ⌜ r ≡ getD (now (list .entry)) at 0 ⌝ }
-{
-    if at < list.len() { list[at] } else { 0 }
-}
 
 // Kind 0: refusal 6 or 5, or 0 for none.
 fn wedgelet_refusal(n: usize, list: &[u64], count: usize, entry: u32) -> u8
-    ensures { λ r. ⌜ r ≡ unless (ltb entry count) 6 (unless (wordOk n (getD (now (list .entry)) entry 0)) 5 0) ⌝ }
+    ensures { λ r. ⌜ r ≡ unless (ltb entry count) 6 (unless (wordOk n (getD (patternsOf n (now (list .entry))) entry 0)) 5 0) ⌝ }
 {
     let at = entry as usize;
     if count <= at {
         return 6;
     }
-    if !pattern::word_ok(n, word_at(list, at)) {
+    if !pattern::word_ok(n, pattern::pattern_at(n, list, at)) {
         return 5;
     }
     0
@@ -39,7 +33,7 @@ fn contour_refusal(textured: bool, entry: u32) -> u8
 
 // The first refusal of kind and entry, or 0.
 fn kind_refusal(n: usize, list: &[u64], count: usize, textured: bool, kind: u32, entry: u32) -> u8
-    ensures { λ r. ⌜ r ≡ kindRefusal n (now (list .entry)) count textured kind entry 0 ⌝ }
+    ensures { λ r. ⌜ r ≡ kindRefusal n (patternsOf n (now (list .entry))) count textured kind entry 0 ⌝ }
 {
     match kind {
         0 => wedgelet_refusal(n, list, count, entry),
@@ -59,7 +53,7 @@ pub fn record_refusal(
     off0: i32,
     off1: i32,
 ) -> u8
-    ensures { λ r. ⌜ r ≡ recordRefusal n (now (list .entry)) count textured (recordOf kind entry off0 off1) ⌝ }
+    ensures { λ r. ⌜ r ≡ recordRefusal n (patternsOf n (now (list .entry))) count textured (recordOf kind entry off0 off1) ⌝ }
 {
     let refusal = kind_refusal(n, list, count, textured, kind, entry);
     if refusal != 0 {

@@ -34,6 +34,7 @@ room h l e = omega arith
 
 -- the state has a block to place, and what is lent fits it
 pub record Turn (S : Sheet) (T : Task) (state : Sheet) (samples : List ℕ) : Type 0 where
+  pub same-size : state .n ≡ S .n
   pub is-open : Open state
   pub lengths : Lengths state (length samples) (length (T .material .list)) (T .material .count) (length (T .material .texture))
   pub original : length (T .original) ≡ area state
@@ -49,6 +50,7 @@ pub turn :
 unfolding choiceRefusal
 turn S T samples0 kinds0 entries0 first0 second0 ready {k} {state} {samples} going more same =
     record {
+      same-size = ap (λ (u : Sheet). u .n) (going .at-k);
       is-open = open-after S k (ready .is-open) more (going .at-k);
       lengths =
           rw (going .at-k, same)

@@ -73,8 +73,8 @@ pub record Leaves (refusal : ℕ) (S : Sheet) (T : Task) (samples0 kinds0 entrie
 
 -- lengths as in placing, an original of as many samples as the sheet, and no fewer records than blocks
 unfoldable pub composeLengthsOk : Sheet → ℕ → ℕ → ℕ → ℕ → ℕ → ℕ → Bool
-composeLengthsOk S samples words count texture original records =
-    lengthsOk S samples words count texture && (eqb original (area S) && leb (blocksOf S) records)
+composeLengthsOk S samples patterns count texture original records =
+    lengthsOk S samples patterns count texture && (eqb original (area S) && leb (blocksOf S) records)
 
 -- 5: a word below the count; 4: the reach; 10: no wedgelet and no texture
 unfoldable pub choiceRefusal : Sheet → Task → ℕ

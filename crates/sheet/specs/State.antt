@@ -47,9 +47,9 @@ newAnswer n w h = answer (newRefusal n w h) (stateOf n w h 0)
 
 -- ---- what is checked of a state
 
--- 2: the lengths of the lent samples, words, count and texture
+-- 2: the lengths of the lent samples, patterns, count and texture
 abbrev pub lengthsOk : Sheet → ℕ → ℕ → ℕ → ℕ → Bool
-lengthsOk S samples words count texture = lengthsOkBy (S .width) (S .height) samples words count texture
+lengthsOk S samples patterns count texture = lengthsOkBy (S .width) (S .height) samples patterns count texture
 
 -- 1, 2, 8, 23, then the rest
 unfoldable pub stateRefusal : Sheet → Bool → ℕ → ℕ
@@ -64,15 +64,15 @@ pub record Open (S : Sheet) : Type 0 where
   pub size : sizeOk (S .n) ≡ true
   pub sides : sidesOk S ≡ true
   pub low : 4 ≤ S .n
-  pub high : S .n ≤ 8
+  pub high : S .n ≤ 16
   pub wide : S .n ≤ S .width
   pub narrow : S .width ≤ longest
   pub short : S .height ≤ longest
   pub missing : S .placed < blocksOf S
 
 -- what `lengthsOk` says
-pub record Lengths (S : Sheet) (samples words count texture : ℕ) : Type 0 where
+pub record Lengths (S : Sheet) (samples patterns count texture : ℕ) : Type 0 where
   pub whole : samples ≡ area S
   pub optional : (texture ≡ 0) ⊎ (texture ≡ area S)
-  pub inside : count ≤ words
+  pub inside : count ≤ patterns
   pub few : count ≤ 9999

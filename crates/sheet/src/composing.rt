@@ -4,6 +4,7 @@ ghost use Prim.Native.Nat.{_<_};
 ghost use lib.ListN.{length, set};
 ghost use Rattle.arith.specs.Checks.{answer};
 ghost use Rattle.choice.specs.Answer.{bestTold};
+ghost use Rattle.pattern.specs.Words.{patternsOf};
 ghost use Rattle.sheet.specs.State.{after, finished};
 ghost use Rattle.sheet.specs.Place.{materialOf, placedSamples, placeRefusal};
 ghost use Rattle.sheet.specs.Compose.{missing, taskOf, choiceRefusal, Ready, Leaves, composeLengthsOk, composeAnswer, composeAfter, composeField};
@@ -44,15 +45,15 @@ impl Sheet {
     fn compose_lengths_ok(
         self,
         samples: usize,
-        words: usize,
+        patterns: usize,
         count: usize,
         texture: usize,
         original: usize,
         records: usize,
     ) -> bool
-        ensures { λ r. ⌜ r ≡ composeLengthsOk self samples words count texture original records ⌝ }
+        ensures { λ r. ⌜ r ≡ composeLengthsOk self samples patterns count texture original records ⌝ }
     {
-        if !self.lengths_ok(samples, words, count, texture) {
+        if !self.lengths_ok(samples, patterns, count, texture) {
             return false;
         }
         if original != samples {
@@ -71,9 +72,9 @@ impl Sheet {
         texture: &[u8],
         best: Best,
     ) -> Sheet
-        requires { ⌜ placeRefusal self (length (now samples)) (materialOf (now list) count (now table) (now texture)) (bestTold best) ≡ 0 ⌝ }
+        requires { ⌜ placeRefusal self (length (now samples)) (materialOf (patternsOf (self .n) (now list)) count (now table) (now texture)) (bestTold best) ≡ 0 ⌝ }
         ensures state { λ r. ⌜ r ≡ after 1 self ⌝ }
-        ensures left { λ r. ⌜ now (samples .exit) ≡ placedSamples self (materialOf (now (list .entry)) count (now (table .entry)) (now (texture .entry))) (now (samples .entry)) (bestTold best) ⌝ }
+        ensures left { λ r. ⌜ now (samples .exit) ≡ placedSamples self (materialOf (patternsOf (self .n) (now (list .entry))) count (now (table .entry)) (now (texture .entry))) (now (samples .entry)) (bestTold best) ⌝ }
     {
         match self.place(
             samples,
@@ -106,9 +107,9 @@ impl Sheet {
         offs0: &mut [i32],
         offs1: &mut [i32],
     ) -> Composed
-        requires { ⌜ Ready self (taskOf (materialOf (now list) count (now table) (now texture)) (now original) reach) (length (now samples)) (length (now kinds)) (length (now entries)) (length (now offs0)) (length (now offs1)) ⌝ }
-        ensures answered { λ r. ⌜ composeTold r ≡ answer (choiceRefusal self (taskOf (materialOf (now (list .entry)) count (now (table .entry)) (now (texture .entry))) (now (original .entry)) reach)) (finished self, missing self) ⌝ }
-        ensures left { λ r. ⌜ Leaves (choiceRefusal self (taskOf (materialOf (now (list .entry)) count (now (table .entry)) (now (texture .entry))) (now (original .entry)) reach)) self (taskOf (materialOf (now (list .entry)) count (now (table .entry)) (now (texture .entry))) (now (original .entry)) reach) (now (samples .entry)) (now (kinds .entry)) (now (entries .entry)) (now (offs0 .entry)) (now (offs1 .entry)) (now (samples .exit)) (now (kinds .exit)) (now (entries .exit)) (now (offs0 .exit)) (now (offs1 .exit)) ⌝ }
+        requires { ⌜ Ready self (taskOf (materialOf (patternsOf (self .n) (now list)) count (now table) (now texture)) (now original) reach) (length (now samples)) (length (now kinds)) (length (now entries)) (length (now offs0)) (length (now offs1)) ⌝ }
+        ensures answered { λ r. ⌜ composeTold r ≡ answer (choiceRefusal self (taskOf (materialOf (patternsOf (self .n) (now (list .entry))) count (now (table .entry)) (now (texture .entry))) (now (original .entry)) reach)) (finished self, missing self) ⌝ }
+        ensures left { λ r. ⌜ Leaves (choiceRefusal self (taskOf (materialOf (patternsOf (self .n) (now (list .entry))) count (now (table .entry)) (now (texture .entry))) (now (original .entry)) reach)) self (taskOf (materialOf (patternsOf (self .n) (now (list .entry))) count (now (table .entry)) (now (texture .entry))) (now (original .entry)) reach) (now (samples .entry)) (now (kinds .entry)) (now (entries .entry)) (now (offs0 .entry)) (now (offs1 .entry)) (now (samples .exit)) (now (kinds .exit)) (now (entries .exit)) (now (offs0 .exit)) (now (offs1 .exit)) ⌝ }
     {
         let first = self.placed as usize;
         let last = self.blocks() as usize;
@@ -154,17 +155,17 @@ impl Sheet {
         offs0: &mut [i32],
         offs1: &mut [i32],
     ) -> Composed
-        ensures answered { λ r. ⌜ composeTold r ≡ composeAnswer self (now (samples .entry)) (taskOf (materialOf (now (list .entry)) count (now (table .entry)) (now (texture .entry))) (now (original .entry)) reach) (recordsLent (length (now (kinds .entry))) (length (now (entries .entry))) (length (now (offs0 .entry))) (length (now (offs1 .entry)))) ⌝ }
-        ensures left { λ r. ⌜ now (samples .exit) ≡ composeAfter self (now (samples .entry)) (taskOf (materialOf (now (list .entry)) count (now (table .entry)) (now (texture .entry))) (now (original .entry)) reach) (recordsLent (length (now (kinds .entry))) (length (now (entries .entry))) (length (now (offs0 .entry))) (length (now (offs1 .entry)))) ⌝ }
-        ensures kind { λ r. ⌜ now (kinds .exit) ≡ composeField (λ x. x .kind) self (now (samples .entry)) (taskOf (materialOf (now (list .entry)) count (now (table .entry)) (now (texture .entry))) (now (original .entry)) reach) (recordsLent (length (now (kinds .entry))) (length (now (entries .entry))) (length (now (offs0 .entry))) (length (now (offs1 .entry)))) (now (kinds .entry)) ⌝ }
-        ensures entry { λ r. ⌜ now (entries .exit) ≡ composeField (λ x. x .entry) self (now (samples .entry)) (taskOf (materialOf (now (list .entry)) count (now (table .entry)) (now (texture .entry))) (now (original .entry)) reach) (recordsLent (length (now (kinds .entry))) (length (now (entries .entry))) (length (now (offs0 .entry))) (length (now (offs1 .entry)))) (now (entries .entry)) ⌝ }
-        ensures first { λ r. ⌜ now (offs0 .exit) ≡ composeField (λ x. x .off0) self (now (samples .entry)) (taskOf (materialOf (now (list .entry)) count (now (table .entry)) (now (texture .entry))) (now (original .entry)) reach) (recordsLent (length (now (kinds .entry))) (length (now (entries .entry))) (length (now (offs0 .entry))) (length (now (offs1 .entry)))) (now (offs0 .entry)) ⌝ }
-        ensures second { λ r. ⌜ now (offs1 .exit) ≡ composeField (λ x. x .off1) self (now (samples .entry)) (taskOf (materialOf (now (list .entry)) count (now (table .entry)) (now (texture .entry))) (now (original .entry)) reach) (recordsLent (length (now (kinds .entry))) (length (now (entries .entry))) (length (now (offs0 .entry))) (length (now (offs1 .entry)))) (now (offs1 .entry)) ⌝ }
+        ensures answered { λ r. ⌜ composeTold r ≡ composeAnswer self (now (samples .entry)) (taskOf (materialOf (patternsOf (self .n) (now (list .entry))) count (now (table .entry)) (now (texture .entry))) (now (original .entry)) reach) (recordsLent (length (now (kinds .entry))) (length (now (entries .entry))) (length (now (offs0 .entry))) (length (now (offs1 .entry)))) ⌝ }
+        ensures left { λ r. ⌜ now (samples .exit) ≡ composeAfter self (now (samples .entry)) (taskOf (materialOf (patternsOf (self .n) (now (list .entry))) count (now (table .entry)) (now (texture .entry))) (now (original .entry)) reach) (recordsLent (length (now (kinds .entry))) (length (now (entries .entry))) (length (now (offs0 .entry))) (length (now (offs1 .entry)))) ⌝ }
+        ensures kind { λ r. ⌜ now (kinds .exit) ≡ composeField (λ x. x .kind) self (now (samples .entry)) (taskOf (materialOf (patternsOf (self .n) (now (list .entry))) count (now (table .entry)) (now (texture .entry))) (now (original .entry)) reach) (recordsLent (length (now (kinds .entry))) (length (now (entries .entry))) (length (now (offs0 .entry))) (length (now (offs1 .entry)))) (now (kinds .entry)) ⌝ }
+        ensures entry { λ r. ⌜ now (entries .exit) ≡ composeField (λ x. x .entry) self (now (samples .entry)) (taskOf (materialOf (patternsOf (self .n) (now (list .entry))) count (now (table .entry)) (now (texture .entry))) (now (original .entry)) reach) (recordsLent (length (now (kinds .entry))) (length (now (entries .entry))) (length (now (offs0 .entry))) (length (now (offs1 .entry)))) (now (entries .entry)) ⌝ }
+        ensures first { λ r. ⌜ now (offs0 .exit) ≡ composeField (λ x. x .off0) self (now (samples .entry)) (taskOf (materialOf (patternsOf (self .n) (now (list .entry))) count (now (table .entry)) (now (texture .entry))) (now (original .entry)) reach) (recordsLent (length (now (kinds .entry))) (length (now (entries .entry))) (length (now (offs0 .entry))) (length (now (offs1 .entry)))) (now (offs0 .entry)) ⌝ }
+        ensures second { λ r. ⌜ now (offs1 .exit) ≡ composeField (λ x. x .off1) self (now (samples .entry)) (taskOf (materialOf (patternsOf (self .n) (now (list .entry))) count (now (table .entry)) (now (texture .entry))) (now (original .entry)) reach) (recordsLent (length (now (kinds .entry))) (length (now (entries .entry))) (length (now (offs0 .entry))) (length (now (offs1 .entry)))) (now (offs1 .entry)) ⌝ }
     {
         let records = records_lent(kinds.len(), entries.len(), offs0.len(), offs1.len());
         let lengths = self.compose_lengths_ok(
             samples.len(),
-            list.len(),
+            self.patterns_lent(list.len()),
             count,
             texture.len(),
             original.len(),

@@ -1,9 +1,11 @@
 // The state of a sheet, and what is checked of it.
 ghost use mathlib.Core.Path.{_≡_};
+ghost use Rattle.pattern.specs.Words.{wholePatterns};
 ghost use Rattle.sheet.specs.State.{lengthsOk, blocksOf, newAnswer, openRefusal};
 ghost use Rattle.sheet.specs.Told.{newTold};
 use crate::Made;
 use crate::Sheet;
+use pattern::whole_patterns;
 
 impl Sheet {
     // The state of an empty sheet, or refusal 1 or 8.
@@ -29,17 +31,24 @@ impl Sheet {
         sheet_checks::blocks(self.n, self.width, self.height)
     }
 
-    // Whether the lent samples, words, count and texture fit the sheet.
+    // The number of whole patterns in so many lent words.
+    pub(crate) fn patterns_lent(self, words: usize) -> usize
+        ensures { λ r. ⌜ r ≡ wholePatterns (self .n) words ⌝ }
+    {
+        whole_patterns(self.n as usize, words)
+    }
+
+    // Whether the lent samples, patterns, count and texture fit the sheet.
     pub(crate) fn lengths_ok(
         self,
         samples: usize,
-        words: usize,
+        patterns: usize,
         count: usize,
         texture: usize,
     ) -> bool
-        ensures { λ r. ⌜ r ≡ lengthsOk self samples words count texture ⌝ }
+        ensures { λ r. ⌜ r ≡ lengthsOk self samples patterns count texture ⌝ }
     {
-        sheet_checks::lengths_ok(self.width, self.height, samples, words, count, texture)
+        sheet_checks::lengths_ok(self.width, self.height, samples, patterns, count, texture)
     }
 
     // The refusal of a state that is to have a block to place, with the lengths judged, or of the table; 0 for none.

@@ -21,10 +21,10 @@ newRefusal n w h = unless (sizeOk n) 1 (unless (sidesOkBy n w h) 8 0)
 
 -- ---- what is lent
 
--- as many samples as width * height, texture of none or as many samples, and a count that the lent words and 9,999 allow
+-- as many samples as width * height, texture of none or as many samples, and a count that the lent patterns and 9,999 allow
 unfoldable pub lengthsOkBy : ℕ → ℕ → ℕ → ℕ → ℕ → ℕ → Bool
-lengthsOkBy w h samples words count texture =
-    eqb samples (w * h) && (textureOk texture (w * h) && countOk words count)
+lengthsOkBy w h samples patterns count texture =
+    eqb samples (w * h) && (textureOk texture (w * h) && countOk patterns count)
 
 -- as many records are lent as the shortest of the four slices has
 abbrev pub recordsLent : ℕ → ℕ → ℕ → ℕ → ℕ

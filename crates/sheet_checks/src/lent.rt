@@ -13,16 +13,16 @@ fn texture_ok(texture: usize, area: usize) -> bool
     texture == 0 || texture == area
 }
 
-// Whether the lent samples, words, count and texture fit a sheet of width by height samples.
+// Whether the lent samples, patterns, count and texture fit a sheet of width by height samples.
 pub fn lengths_ok(
     width: u32,
     height: u32,
     samples: usize,
-    words: usize,
+    patterns: usize,
     count: usize,
     texture: usize,
 ) -> bool
-    ensures { λ r. ⌜ r ≡ lengthsOkBy width height samples words count texture ⌝ }
+    ensures { λ r. ⌜ r ≡ lengthsOkBy width height samples patterns count texture ⌝ }
 {
     let area = width as usize * height as usize;
     if samples != area {
@@ -31,7 +31,7 @@ pub fn lengths_ok(
     if !texture_ok(texture, area) {
         return false;
     }
-    count_ok(words, count)
+    count_ok(patterns, count)
 }
 
 // As many records are lent as the shortest of the four slices has.

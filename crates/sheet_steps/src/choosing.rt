@@ -4,6 +4,7 @@ ghost use mathlib.Core.Bool.{cond};
 ghost use lib.Dec.{ltb};
 ghost use lib.ListN.{length};
 ghost use Rattle.choice.specs.Answer.{chooseAnswer, chooseTold};
+ghost use Rattle.pattern.specs.Words.{patternsOf};
 ghost use Rattle.sheet_steps.specs.Steps.{blockCase};
 use choice::Choice;
 
@@ -28,7 +29,9 @@ pub fn choose_block(
     reach: u32,
     texture: &[u8],
 ) -> Choice
-    ensures { λ r. ⌜ chooseTold r ≡ chooseAnswer (blockCase n width k (now (list .entry)) count (now (samples .entry)) (now (original .entry)) (now (table .entry)) reach (now (texture .entry))) ⌝ }
+    ensures { λ r. ⌜ chooseTold r ≡ chooseAnswer
+        (blockCase n width k (patternsOf n (now (list .entry))) count (now (samples .entry)) (now (original .entry))
+        (now (table .entry)) reach (now (texture .entry))) ⌝ }
 {
     let side = n as usize;
     if !pattern::size_ok(side) {

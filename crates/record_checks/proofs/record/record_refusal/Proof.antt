@@ -7,6 +7,7 @@ use mir.ValLaws.{toZ-ofZ}
 use Rattle.choice.specs.Record.{Record}
 use Rattle.record_checks.specs.Meaning.{recordOf, kindRefusal}
 use Rattle.record_checks.proofs.MeaningLaws.{kind-refuses, off0-refuses, off1-refuses, none-refuses}
+use Rattle.pattern.specs.Words.{patternsOf}
 use Rattle.record_checks.proofs.record.record_refusal.Statement.{statement}
 use Rattle.record_checks.proofs.record.record_refusal.Tie as tie
 
@@ -15,7 +16,7 @@ abbrev judged : tie.Start → Record
 judged d = recordOf (d .args .kind) (d .args .entry) (d .args .off0) (d .args .off1)
 
 -- past the check of kind and entry
-none : (c : tie.Else1) → let a = c .before .before .before .args in kindRefusal (a .n) (a .list .now) (a .count) (a .textured) (a .kind) (a .entry) 0 ≡ 0
+none : (c : tie.Else1) → let a = c .before .before .before .args in kindRefusal (a .n) (patternsOf (a .n) (a .list .now)) (a .count) (a .textured) (a .kind) (a .entry) 0 ≡ 0
 none c = sym (c .before .kind-refusal .ensures) ∙ c .if1 .left
 
 kind-refusal-requires : tie.Need-kind-refusal-requires
@@ -25,7 +26,7 @@ returns : tie.Need-returns
 returns c =
     let d = c .before .before .before in
     let a = d .args in
-    kind-refuses (a .n) (a .list .now) (a .count) (a .textured) (judged d) (c .before .kind-refusal .ensures) (c .if1 .taken)
+    kind-refuses (a .n) (patternsOf (a .n) (a .list .now)) (a .count) (a .textured) (judged d) (c .before .kind-refusal .ensures) (c .if1 .taken)
 
 offset-ok-requires : tie.Need-offset-ok-requires
 offset-ok-requires c κs = search needs
@@ -35,7 +36,7 @@ returns-2 c =
     let e = c .before .before in
     let d = e .before .before .before in
     let a = d .args in
-    off0-refuses (a .n) (a .list .now) (a .count) (a .textured) (judged d) (none e) (toZ-ofZ w32 (a .off0) (d .fits .off0)) (sym (c .before .offset-ok .ensures) ∙ not-true _ (c .if2 .taken))
+    off0-refuses (a .n) (patternsOf (a .n) (a .list .now)) (a .count) (a .textured) (judged d) (none e) (toZ-ofZ w32 (a .off0) (d .fits .off0)) (sym (c .before .offset-ok .ensures) ∙ not-true _ (c .if2 .taken))
 
 offset-ok-requires-2 : tie.Need-offset-ok-requires-2
 offset-ok-requires-2 c κs = search needs
@@ -46,7 +47,7 @@ returns-4 c =
     let e = f .before .before in
     let d = e .before .before .before in
     let a = d .args in
-    none-refuses (a .n) (a .list .now) (a .count) (a .textured) (judged d) (none e) (toZ-ofZ w32 (a .off0) (d .fits .off0)) (sym (f .before .offset-ok .ensures) ∙ not-false _ (f .if2 .left))
+    none-refuses (a .n) (patternsOf (a .n) (a .list .now)) (a .count) (a .textured) (judged d) (none e) (toZ-ofZ w32 (a .off0) (d .fits .off0)) (sym (f .before .offset-ok .ensures) ∙ not-false _ (f .if2 .left))
     (toZ-ofZ w32 (a .off1) (d .fits .off1)) (sym (c .before .offset-ok2 .ensures) ∙ not-false _ (c .if3 .left))
 
 returns-3 : tie.Need-returns-3
@@ -55,7 +56,7 @@ returns-3 c =
     let e = f .before .before in
     let d = e .before .before .before in
     let a = d .args in
-    off1-refuses (a .n) (a .list .now) (a .count) (a .textured) (judged d) (none e) (toZ-ofZ w32 (a .off0) (d .fits .off0)) (sym (f .before .offset-ok .ensures) ∙ not-false _ (f .if2 .left))
+    off1-refuses (a .n) (patternsOf (a .n) (a .list .now)) (a .count) (a .textured) (judged d) (none e) (toZ-ofZ w32 (a .off0) (d .fits .off0)) (sym (f .before .offset-ok .ensures) ∙ not-false _ (f .if2 .left))
     (toZ-ofZ w32 (a .off1) (d .fits .off1)) (sym (c .before .offset-ok2 .ensures) ∙ not-true _ (c .if3 .taken))
 
 pub record-refusal-spec : {M : Type 1} → statement M

@@ -5,6 +5,8 @@ use mathlib.Core.Path.{_≡_, refl, sym, ap, _∙_}
 use Prim.Native.Nat.{ℕ}
 use lib.ListN.{length}
 use Rattle.choice.specs.Record.{Record}
+use Rattle.pattern.specs.Words.{patternsOf}
+use Rattle.pattern.proofs.WordLaws.{length-patterns}
 use Rattle.sheet_checks.specs.Checks.{recordsLent}
 use Rattle.sheet.specs.State.{openRefusal}
 use Rattle.sheet.specs.Place.{materialOf}
@@ -16,13 +18,16 @@ use Rattle.sheet.proofs.Sheet.compose.Tie as tie
 
 -- what the call is given
 abbrev task : tie.Start → Task
-task d = taskOf (materialOf (d .args .list .now) (d .args .count) (d .args .table .now) (d .args .texture .now)) (d .args .original .now) (d .args .reach)
+task d = taskOf (materialOf (patternsOf (d .args .self .n) (d .args .list .now)) (d .args .count) (d .args .table .now) (d .args .texture .now)) (d .args .original .now) (d .args .reach)
 
 abbrev records : tie.Start → ℕ
 records d = recordsLent (length (d .args .kinds .now)) (length (d .args .entries .now)) (length (d .args .offs0 .now)) (length (d .args .offs1 .now))
 
 records-lent-requires : tie.Need-records-lent-requires
 records-lent-requires c κs = tt
+
+patterns-lent-requires : tie.Need-patterns-lent-requires
+patterns-lent-requires c κs = tt
 
 compose-lengths-ok-requires : tie.Need-compose-lengths-ok-requires
 compose-lengths-ok-requires c κs = tt
@@ -33,13 +38,17 @@ open-refusal-requires c κs = tt
 -- whether the lengths hold
 judged :
     (c : tie.After-compose-lengths-ok)
-    → let d = c .before .before .before .before .before .before .before .before .before in
+    → let d = c .before .before .before .before .before .before .before .before .before .before in
     c .compose-lengths-ok .result ≡ lengthsHold (d .args .self) (task d) (length (d .args .samples .now)) (records d)
-judged c = rw (c .before .records-lent .ensures) at (c .compose-lengths-ok .ensures)
+judged c =
+    let a = c .before .before .before .before .before .before .before .before .before .before .args in
+    let e : c .before .patterns-lent .result ≡ length (patternsOf (a .self .n) (a .list .now)) =
+    c .before .patterns-lent .ensures ∙ sym (length-patterns (a .self .n) (a .list .now)) in
+    rw (e, c .before .before .records-lent .ensures) at (c .compose-lengths-ok .ensures)
 
 returns : tie.Need-returns
 returns c =
-    let d = c .before .before .before .before .before .before .before .before .before .before .before in
+    let d = c .before .before .before .before .before .before .before .before .before .before .before .before in
     let a = d .args in
     let e = compose-kept (a .self) (task d) (length (a .samples .now)) (records d) (judged (c .before .before)) (c .before .open-refusal .ensures) (c .if1 .taken) in
     let h = c .if1 .taken in (
@@ -62,24 +71,24 @@ returns c =
 -- past the checks of state and table
 none :
     (c : tie.Else1)
-    → let d = c .before .before .before .before .before .before .before .before .before .before .before in
+    → let d = c .before .before .before .before .before .before .before .before .before .before .before .before in
     openRefusal (d .args .self) (lengthsHold (d .args .self) (task d) (length (d .args .samples .now)) (records d)) (d .args .table .now) 0 ≡ 0
 none c =
-    let d = c .before .before .before .before .before .before .before .before .before .before .before in
+    let d = c .before .before .before .before .before .before .before .before .before .before .before .before in
     ap (λ (b : Bool). openRefusal (d .args .self) b (d .args .table .now) 0) (sym (judged (c .before .before)))
     ∙ sym (c .before .open-refusal .ensures)
     ∙ c .if1 .left
 
 accepted :
     (c : tie.Else1)
-    → let d = c .before .before .before .before .before .before .before .before .before .before .before in
+    → let d = c .before .before .before .before .before .before .before .before .before .before .before .before in
     Opened (d .args .self) (lengthsHold (d .args .self) (task d) (length (d .args .samples .now)) (records d)) (d .args .table .now)
-accepted c = let d = c .before .before .before .before .before .before .before .before .before .before .before in opened (d .args .self) (lengthsHold (d .args .self) (task d) (length (d .args .samples .now)) (records d)) (d .args .table .now) 0 (none c) .0
+accepted c = let d = c .before .before .before .before .before .before .before .before .before .before .before .before in opened (d .args .self) (lengthsHold (d .args .self) (task d) (length (d .args .samples .now)) (records d)) (d .args .table .now) 0 (none c) .0
 
 compose-missing-requires : tie.Need-compose-missing-requires
 compose-missing-requires c κs =
     let e = c .before .before .before .before .before in
-    let d = e .before .before .before .before .before .before .before .before .before .before .before in
+    let d = e .before .before .before .before .before .before .before .before .before .before .before .before in
     compose-ready (d .args .self) (task d) (length (d .args .samples .now)) (records d) (accepted e) refl
 
 same-length : tie.Need-same-length
@@ -101,7 +110,7 @@ returns-2 : tie.Need-returns-2
 returns-2 c =
     let m = c .before .before .before .before .before .before .before .before in
     let e = m .before .before .before .before .before .before in
-    let d = e .before .before .before .before .before .before .before .before .before .before .before in
+    let d = e .before .before .before .before .before .before .before .before .before .before .before .before in
     let a = d .args in
     let p = compose-passed (a .self) (task d) (length (a .samples .now)) (records d) (none e) in
     let left = m .compose-missing .ensures .1 in (
@@ -126,6 +135,7 @@ compose-spec =
     tie.close
     (tie.spec
     records-lent-requires
+    patterns-lent-requires
     compose-lengths-ok-requires
     open-refusal-requires
     returns

@@ -17,7 +17,7 @@ unfolding composeLengthsOk
 returns c = rw (sym (c .before .lengths-ok .ensures) ∙ not-true _ (c .if1 .taken))
 
 -- past the first test
-passing : (c : tie.Else1) → let d = c .before .before in lengthsOk (d .args .self) (d .args .samples) (d .args .words) (d .args .count) (d .args .texture) ≡ true
+passing : (c : tie.Else1) → let d = c .before .before in lengthsOk (d .args .self) (d .args .samples) (d .args .patterns) (d .args .count) (d .args .texture) ≡ true
 passing c = sym (c .before .lengths-ok .ensures) ∙ not-false _ (c .if1 .left)
 
 returns-2 : tie.Need-returns-2
@@ -25,7 +25,7 @@ unfolding composeLengthsOk
 returns-2 c =
     let d = c .before .before .before in
     let e = passing (c .before) in
-    let w = lengths-are (d .args .self) (d .args .samples) (d .args .words) (d .args .count) (d .args .texture) e .whole in
+    let w = lengths-are (d .args .self) (d .args .samples) (d .args .patterns) (d .args .count) (d .args .texture) e .whole in
     rw (e, ne-eqb _ _ (λ q. c .if2 .taken (q ∙ sym w)))
 
 blocks-requires : tie.Need-blocks-requires
@@ -36,7 +36,7 @@ unfolding composeLengthsOk
 returns-3 c =
     let d = c .before .before .before .before in
     let e = passing (c .before .before) in
-    let w = lengths-are (d .args .self) (d .args .samples) (d .args .words) (d .args .count) (d .args .texture) e .whole in
+    let w = lengths-are (d .args .self) (d .args .samples) (d .args .patterns) (d .args .count) (d .args .texture) e .whole in
     rw (e, eq-eqb _ _ (c .before .if2 .left ∙ w), c .blocks2 .ensures)
 
 pub compose-lengths-ok-spec : {M : Type 1} → statement M

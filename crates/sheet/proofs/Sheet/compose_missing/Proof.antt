@@ -1,5 +1,5 @@
 -- `compose_missing` meets its contract: the loop keeps `Going`.
-use Prim.Native.Nat.{_+_, _-_, _≤_, _<_}
+use Prim.Native.Nat.{ℕ, _+_, _-_, _≤_, _<_}
 use mathlib.Core.Path.{_≡_, refl, sym, ap, _∙_}
 use native.Mathlib.Nat.{lt-of-lt-of-le}
 use native.Mathlib.Omega.{arith}
@@ -8,6 +8,7 @@ use lib.ListN.{length, length-set}
 use Rattle.arith.specs.Checks.{refused, given}
 use Rattle.arith.proofs.CheckLaws.{answer-refused}
 use Rattle.choice.specs.Answer.{chooseAnswer, chooseTold, bestTold}
+use Rattle.pattern.specs.Words.{patternsOf}
 use Rattle.sheet.specs.State.{finished}
 use Rattle.sheet.specs.Place.{materialOf}
 use Rattle.sheet.specs.Compose.{missing, Task, taskOf, composeCase, choiceRefusal}
@@ -26,7 +27,7 @@ Inv-loop samples₀ original list count table reach texture kinds₀ entries₀ 
     × (length entries ≡ length entries₀)
     × (length offs0 ≡ length offs0₀)
     × (length offs1 ≡ length offs1₀)
-    × Going state₀ (taskOf (materialOf list count table texture) original reach) samples₀ kinds₀ entries₀ offs0₀ offs1₀ (block - first) state samples kinds entries offs0 offs1
+    × Going state₀ (taskOf (materialOf (patternsOf (state₀ .n) list) count table texture) original reach) samples₀ kinds₀ entries₀ offs0₀ offs1₀ (block - first) state samples kinds entries offs0 offs1
 
 abbrev μ-loop : tie.MeasureT-loop
 μ-loop samples₀ original list count table reach texture kinds₀ entries₀ offs0₀ offs1₀ first last state₀ block₀ samples kinds entries offs0 offs1 state block =
@@ -40,7 +41,7 @@ abbrev begin : tie.At-loop Inv-loop μ-loop → tie.Start Inv-loop μ-loop
 begin c = c .before .before .before .before .before .before .before .before .before .before
 
 abbrev task : tie.Start Inv-loop μ-loop → Task
-task d = taskOf (materialOf (d .args .list .now) (d .args .count) (d .args .table .now) (d .args .texture .now)) (d .args .original .now) (d .args .reach)
+task d = taskOf (materialOf (patternsOf (d .args .self .n) (d .args .list .now)) (d .args .count) (d .args .table .now) (d .args .texture .now)) (d .args .original .now) (d .args .reach)
 
 blocks-requires : tie.Need-blocks-requires Inv-loop μ-loop
 blocks-requires c κs = tt
@@ -64,6 +65,12 @@ this c =
     let a = d .args in
     turn (a .self) (task d) (a .samples .now) (a .kinds .now) (a .entries .now) (a .offs0 .now) (a .offs1 .now) (d .pre) (c .before .loop .inv .7) (more c) (c .before .loop .inv .2)
 
+-- the list is read for the size that the sheet has from the start
+same-patterns :
+    (c : tie.In-loop Inv-loop μ-loop)
+    → let d = begin (c .before) in patternsOf (c .before .loop .state .n) (d .args .list .now) ≡ patternsOf (d .args .self .n) (d .args .list .now)
+same-patterns c = ap (λ (n : ℕ). patternsOf n (begin (c .before) .args .list .now)) (this c .same-size)
+
 choose-block-requires : tie.Need-choose-block-requires Inv-loop μ-loop
 choose-block-requires c κs = tt
 
@@ -72,7 +79,7 @@ answered :
     (c : tie.After-choose-block Inv-loop μ-loop)
     → let l = c .before .before in
     chooseTold (c .choose-block .result) ≡ chooseAnswer (composeCase (l .before .loop .state) (task (begin (l .before))) (l .before .loop .samples))
-answered c = c .choose-block .ensures ∙ ap chooseAnswer (turn-case (this (c .before .before)))
+answered c = rw (same-patterns (c .before .before)) at (c .choose-block .ensures) ∙ ap chooseAnswer (turn-case (this (c .before .before)))
 
 enum-known-best : tie.Need-enum-known-best Inv-loop μ-loop
 enum-known-best c = search needs
@@ -86,7 +93,9 @@ told :
 told c = sym (ap chooseTold (c .best .given .1)) ∙ answered (c .before .before)
 
 place-next-requires : tie.Need-place-next-requires Inv-loop μ-loop
-place-next-requires c κs = turn-placed (this (c .before .before .before .before .before .before)) (told (c .before .before))
+place-next-requires c κs =
+    let l = c .before .before .before .before .before .before in
+    rw (same-patterns l) (turn-placed (this l) (told (c .before .before)))
 
 sub-store : tie.Need-sub-store Inv-loop μ-loop
 sub-store c = let l = c .before .before .before .before .before .before .before .before .before .before .before .before .before in omega (arith, l .before .loop .inv .0)
@@ -138,7 +147,7 @@ loop-again c =
     let a = d .args in
     let i = l .before .loop .inv in
     let best = c .before .before .before .before .before .before .before .before .before .before .before .before .before .before .before .before in
-    let placed = c .before .before .before .before .before .before .before .before .before .before .before .before .before .place-next .ensures in
+    let placed = rw (same-patterns l) at (c .before .before .before .before .before .before .before .before .before .before .before .before .before .place-next .ensures) in
     let stored = c .before .before .before .before .before .before .store .ensures in
     let e : l .before .loop .block + 1 - a .self .placed ≡ l .before .loop .block - a .self .placed + 1 = omega (arith, i .0) in (
       omega (arith, i .0),

@@ -6,6 +6,7 @@ use mir.Val.{SFits}
 use mir.ValLaws.{toZ-ofZ}
 use Rattle.arith.specs.Checks.{given}
 use Rattle.choice.specs.Answer.{bestTold}
+use Rattle.pattern.specs.Words.{patternsOf}
 use Rattle.sheet.specs.State.{after}
 use Rattle.sheet.specs.Place.{materialOf, placedSamples}
 use Rattle.sheet.specs.Told.{placeTold}
@@ -23,13 +24,13 @@ answered :
     → let a = c .before .before .before .before .before .before .before .before .args in
     (placeTold (c .place .result) ≡ given (after 1 (a .self)))
     × (c .place .last .1 .0
-    ≡ placedSamples (a .self) (materialOf (a .list .now) (a .count) (a .table .now) (a .texture .now)) (a .samples .now) (bestTold (a .best)))
+    ≡ placedSamples (a .self) (materialOf (patternsOf (a .self .n) (a .list .now)) (a .count) (a .table .now) (a .texture .now)) (a .samples .now) (bestTold (a .best)))
 answered c =
     let d = c .before .before .before .before .before .before .before .before in
     let a = d .args in
     let f0 : SFits w32 (a .best .off0) = search needs in
     let f1 : SFits w32 (a .best .off1) = search needs in
-    let e = place-accepted (a .self) (a .samples .now) (materialOf (a .list .now) (a .count) (a .table .now) (a .texture .now)) (bestTold (a .best)) (d .pre) in
+    let e = place-accepted (a .self) (a .samples .now) (materialOf (patternsOf (a .self .n) (a .list .now)) (a .count) (a .table .now) (a .texture .now)) (bestTold (a .best)) (d .pre) in
     let p = rw (toZ-ofZ w32 (a .best .off0) f0, toZ-ofZ w32 (a .best .off1) f1) at (c .place .ensures) in
     (p .0 ∙ e .0, p .1 ∙ e .1)
 

@@ -1,10 +1,16 @@
 -- `put` meets its contract: the predicted block is written in the next place.
 use borrow.Author.Needs.{needs}
-use mathlib.Core.Path.{refl, _∙_}
+use Prim.Native.Nat.{ℕ}
+use mathlib.Core.List.{List}
+use mathlib.Core.Path.{refl, ap, _∙_}
+use borrow.Author.Tests.{ltb-true}
 use native.Mathlib.Omega.{arith}
 use mir.Syntax.{w32}
 use mir.ValLaws.{toZ-ofZ}
+use Rattle.pattern.specs.Words.{patternNumber}
 use Rattle.sheet_blocks.proofs.GridLaws.{blocks-few}
+use Rattle.pattern.proofs.WordLaws.{used-is}
+use Rattle.sheet_steps.specs.Steps.{drawAfter}
 use Rattle.sheet_steps.proofs.DrawLaws.{draw-written}
 use Rattle.sheet.proofs.CallLaws.{predict-none}
 use Rattle.sheet.proofs.StateLaws.{area-few, next-lies}
@@ -27,12 +33,15 @@ returns c =
     let w = c .before .before in
     let d = w .before .before .before .before in
     let a = d .args in
-    let S = a .self in (
+    let S = a .self in
+    let drawn : ℕ → List ℕ = λ word. drawAfter (S .n) (S .width) (S .placed) word (a .table .now) (a .off0) (a .off1) (a .samples .now) in
+    let used = used-is (S .n) (a .p) (search needs) (ltb-true _ _ (d .pre .2 .fits)) in (
       refl,
       rw (toZ-ofZ w32 (a .off0) (d .fits .off0), toZ-ofZ w32 (a .off1) (d .fits .off1)) at (w .draw .ensures)
-          ∙ draw-written (S .n) (S .width) (S .placed) (a .word) (a .table .now) (a .off0) (a .off1) (a .samples .now)
+          ∙ ap drawn used
+          ∙ draw-written (S .n) (S .width) (S .placed) (patternNumber (a .p)) (a .table .now) (a .off0) (a .off1) (a .samples .now)
           (next-lies S (d .pre .0) (d .pre .1))
-          (predict-none (S .n) (a .word) (a .table .now) (a .off0) (a .off1) (d .pre .0 .size) (d .pre .2)),
+          (predict-none (S .n) (patternNumber (a .p)) (a .table .now) (a .off0) (a .off1) (d .pre .0 .size) (d .pre .2)),
     )
 
 pub put-spec : {M : Type 1} → statement M

@@ -18,7 +18,7 @@ returns : tie.Need-returns
 unfolding lengthsOkBy
 returns c =
     let a = c .before .args in
-    let found = first-fails (textureOk (a .texture) (a .width * a .height) && countOk (a .words) (a .count)) (ne-eqb _ _ (c .if1 .taken)) in
+    let found = first-fails (textureOk (a .texture) (a .width * a .height) && countOk (a .patterns) (a .count)) (ne-eqb _ _ (c .if1 .taken)) in
     found
 
 texture-ok-requires : tie.Need-texture-ok-requires

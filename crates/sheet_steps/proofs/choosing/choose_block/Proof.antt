@@ -8,7 +8,9 @@ use native.Mathlib.Omega.{arith}
 use lib.Dec.{ltb}
 use lib.ListN.{length}
 use lib.Seq.{length-take-le}
-use Rattle.pattern.proofs.SizeLaws.{size-bounds, square-64}
+use Rattle.pattern.specs.Words.{patternsOf}
+use Rattle.pattern.specs.Size.{greatestSize, greatestSamples, greatestNeighbours}
+use Rattle.pattern.proofs.SizeLaws.{size-bounds, square-256}
 use Rattle.choice.specs.Answer.{chooseAnswer}
 use Rattle.sheet_steps.specs.Steps.{blockCase}
 use Rattle.sheet_steps.proofs.ChooseLaws.{size-first, case-cut}
@@ -25,11 +27,11 @@ size-ok-requires c κs = tt
 returns : tie.Need-returns
 returns c =
     let a = begin (c .before) .args in
-    size-first (blockCase (a .n) (a .width) (a .k) (a .list .now) (a .count) (a .samples .now) (a .original .now) (a .table .now) (a .reach) (a .texture .now))
+    size-first (blockCase (a .n) (a .width) (a .k) (patternsOf (a .n) (a .list .now)) (a .count) (a .samples .now) (a .original .now) (a .table .now) (a .reach) (a .texture .now))
     (sym (c .before .size-ok .ensures) ∙ not-true _ (c .if1 .taken))
 
 -- past the check of the size
-high : (c : tie.Else1) → begin (c .before) .args .n ≤ 8
+high : (c : tie.Else1) → begin (c .before) .args .n ≤ greatestSize
 high c = size-bounds (begin (c .before) .args .n) (sym (c .before .size-ok .ensures) ∙ not-false _ (c .if1 .left)) .1
 
 neighbours-of-requires : tie.Need-neighbours-of-requires
@@ -42,7 +44,7 @@ cut-requires : tie.Need-cut-requires
 cut-requires c κs = tt
 
 mul-block : tie.Need-mul-block
-mul-block c = omega (arith, square-64 (high (c .before .before)))
+mul-block c = omega (arith, square-256 (high (c .before .before)))
 
 cut-requires-2 : tie.Need-cut-requires-2
 cut-requires-2 c κs = tt
@@ -53,13 +55,13 @@ lent-part-requires c κs = tt
 -- the arrays have room for the neighbours, the block and its texture
 border : (c : tie.After-neighbours-of) → 4 * begin (c .before .before) .args .n ≤ length (c .neighbours-of .result)
 border c =
-    let l : length (c .neighbours-of .result) ≡ 32 = search needs in
+    let l : length (c .neighbours-of .result) ≡ greatestNeighbours = search needs in
     omega (arith, high (c .before))
 
 room : (c : tie.After-cut) → let n = begin (c .before .before .before) .args .n in n * n ≤ length (c .cut .result)
 room c =
-    let l : length (c .cut .result) ≡ 64 = search needs in
-    omega (arith, square-64 (high (c .before .before)))
+    let l : length (c .cut .result) ≡ greatestSamples = search needs in
+    omega (arith, square-256 (high (c .before .before)))
 
 lit : (c : tie.After-lent-part) → c .lent-part .result ≤ length (c .before .cut2 .result)
 lit c = rw (c .lent-part .ensures) (go (ltb 0 (length (d .args .texture .now))))
@@ -69,8 +71,8 @@ lit c = rw (c .lent-part .ensures) (go (ltb 0 (length (d .args .texture .now))))
 
     go : (b : Bool) → cond b (d .args .n * d .args .n) 0 ≤ length (c .before .cut2 .result)
     go true =
-        let l : length (c .before .cut2 .result) ≡ 64 = search needs in
-        omega (arith, square-64 (high (c .before .before .before .before)))
+        let l : length (c .before .cut2 .result) ≡ greatestSamples = search needs in
+        omega (arith, square-256 (high (c .before .before .before .before)))
     go false = omega arith
 
 array-share-prefix-near : tie.Need-array-share-prefix-near
@@ -99,7 +101,7 @@ returns-2 c =
     let part = c .before .before .before .before in
     let own = part .before .before in
     let a = begin (own .before .before .before) .args in
-    let case = case-cut (a .n) (a .list .now) (a .count) (a .table .now) (a .reach) (ltb 0 (length (a .texture .now))) in
+    let case = case-cut (a .n) (patternsOf (a .n) (a .list .now)) (a .count) (a .table .now) (a .reach) (ltb 0 (length (a .texture .now))) in
     let same = case (own .before .neighbours-of .ensures) (own .cut .ensures) (part .before .cut2 .ensures) (part .lent-part .ensures) in
     let found = c .choose .ensures .0 ∙ ap chooseAnswer same in
     found

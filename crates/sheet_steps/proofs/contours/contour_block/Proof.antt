@@ -12,7 +12,8 @@ use Rattle.arith.proofs.CheckLaws.{given-means, refused-means}
 use Rattle.pattern.specs.Size.{sizeOk}
 use Rattle.pattern.specs.Answer.{contourAnswer}
 use Rattle.pattern.specs.Told.{contourTold}
-use Rattle.pattern.proofs.SizeLaws.{size-bounds, square-64}
+use Rattle.pattern.specs.Size.{greatestSamples}
+use Rattle.pattern.proofs.SizeLaws.{size-bounds, square-256}
 use Rattle.sheet_steps.specs.Steps.{contourAt}
 use Rattle.sheet_steps.proofs.ContourLaws.{contour-none, contour-given}
 use Rattle.sheet_steps.proofs.contours.contour_block.Statement.{statement}
@@ -21,10 +22,17 @@ use Rattle.sheet_steps.proofs.contours.contour_block.Tie as tie
 size-ok-requires : tie.Need-size-ok-requires
 size-ok-requires c κs = tt
 
+one-word-requires : tie.Need-one-word-requires
+one-word-requires c κs = tt
+
+one-word-requires-2 : tie.Need-one-word-requires-2
+one-word-requires-2 c κs = tt
+
 returns : tie.Need-returns
 returns c =
-    let a = c .before .before .before .args in
-    contour-none (a .n) (a .width) (a .k) (a .texture .now) (sym (c .before .size-ok .ensures) ∙ not-true _ (c .if1 .taken))
+    let d = c .before in
+    let a = d .before .before .before .args in
+    c .one-word .ensures ∙ contour-none (a .n) (a .width) (a .k) (a .texture .now) (sym (d .before .size-ok .ensures) ∙ not-true _ (d .if1 .taken))
 
 -- past the check of the size
 good : (c : tie.Else1) → sizeOk (c .before .before .before .args .n) ≡ true
@@ -34,12 +42,12 @@ cut-requires : tie.Need-cut-requires
 cut-requires c κs = tt
 
 -- the block has at most as many samples as its array
-few : (c : tie.After-cut) → let n = c .before .before .before .before .args .n in n * n ≤ 64
-few c = square-64 (size-bounds (c .before .before .before .before .args .n) (good (c .before)) .1)
+few : (c : tie.After-cut) → let n = c .before .before .before .before .args .n in n * n ≤ greatestSamples
+few c = square-256 (size-bounds (c .before .before .before .before .args .n) (good (c .before)) .1)
 
 room : (c : tie.After-cut) → let n = c .before .before .before .before .args .n in n * n ≤ length (c .cut .result)
 room c =
-    let l : length (c .cut .result) ≡ 64 = search needs in
+    let l : length (c .cut .result) ≡ greatestSamples = search needs in
     omega (arith, few c)
 
 mul-count : tie.Need-mul-count
@@ -54,8 +62,8 @@ slice-aggregate-contour c = sym (length-take-le _ _ (room (c .before)))
 contour-requires : tie.Need-contour-requires
 contour-requires c κs = tt
 
-enum-known-word : tie.Need-enum-known-word
-enum-known-word c = search needs
+enum-known-p : tie.Need-enum-known-p
+enum-known-p c = search needs
 
 enum-told : tie.Need-enum-told
 enum-told c = search needs
@@ -73,25 +81,28 @@ contoured c =
 returns-2 : tie.Need-returns-2
 returns-2 c =
     let d = c .before .before .before in
-    given-means 0 _ _ (sym (ap contourTold (c .before .word .given .1)) ∙ d .contour .ensures ∙ contoured d) .1
+    given-means 0 _ _ (sym (ap contourTold (c .before .p .given .1)) ∙ d .contour .ensures ∙ contoured d) .1
 
 returns-3 : tie.Need-returns-3
 returns-3 c =
-    let d = c .before .before in
-    absurd (refused-means 0 _ _ (sym (contoured d) ∙ sym (d .contour .ensures) ∙ ap contourTold (c .enum-told .given .1)) .1 refl)
+    let e = c .before in
+    let d = e .before .before in
+    absurd (refused-means 0 _ _ (sym (contoured d) ∙ sym (d .contour .ensures) ∙ ap contourTold (e .enum-told .given .1)) .1 refl)
 
 pub contour-block-spec : {M : Type 1} → statement M
 contour-block-spec =
     tie.close
     (tie.spec
     size-ok-requires
+    one-word-requires
     returns
     cut-requires
     mul-count
     array-share-prefix-block
     slice-aggregate-contour
     contour-requires
-    enum-known-word
+    enum-known-p
     enum-told
+    one-word-requires-2
     returns-2
     returns-3)
