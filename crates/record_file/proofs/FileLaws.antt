@@ -45,7 +45,7 @@ pub record SizeSmall (z : SizeFields) : Type 0 where
   pub size : sizeOk (z .n) ≡ true
   pub sides : sidesOk (stateOf (z .n) (z .width) (z .height) 0) ≡ true
   pub low : 4 ≤ z .n
-  pub n : z .n ≤ 8
+  pub n : z .n ≤ 16
   pub width : z .width ≤ 128
   pub height : z .height ≤ 128
   pub some : 1 ≤ z .values
@@ -78,14 +78,14 @@ size-printable z s =
 
 -- ---- what is printed is read
 
-module _ (A : Aids) (F : File) (few : A .count ≤ 9999) (ok : FileSound A F) where
+module _ (A : Aids) (F : File) (few : A .count (F .n) ≤ 9999) (ok : FileSound A F) where
   abbrev header : SizeFields
   header = sizeFieldsOf (F .n) (F .width) (F .height) (length (F .table))
 
   sound-records : Each (λ (c : Unit {0}) r. RecordPrintable r × (recordMeaning (F .n) A tt r ≡ 0)) unchanged tt (F .records)
   sound-records =
       each-made (λ r. RecordPrintable r × (recordMeaning (F .n) A tt r ≡ 0)) unchanged noRecord (F .records)
-      (λ i h. let m = ok .each i h in (small-printable _ (record-small (F .n) (A .list) (A .count) _ _ few m), m))
+      (λ i h. let m = ok .each i h in (small-printable _ (record-small (F .n) (A .list (F .n)) (A .count (F .n)) _ _ few m), m))
 
   last-read : lastLines (F .n) A (blocksIn header) (5 + length (F .table)) (texts recordText (F .records)) ≡ read (F .records) []
   last-read =

@@ -12,7 +12,7 @@ use Rattle.record_field.specs.Parsed.{Parsed, Parser, badForm, found, exactly}
 use Rattle.record_text.specs.Line.{sizeTitle, depthTitle, recordTitle, sizeLine, valueLine, recordLine}
 use Rattle.record_text.specs.Lines.{Lined, refusedAt, read, judged, line, linesThen, noMeaning, manyLines, ended}
 use Rattle.record_text.proofs.LinesLaws.{line-parts}
-use Rattle.record_file.specs.Reading.{Aids, sizeMeaning, valueMeaning, lowAfter, recordMeaning, unchanged, valueLines, recordLines, headLines, tableLines, frontLines, blocksIn, restLines, fileLines, readLengthsOk, readFile}
+use Rattle.record_file.specs.Reading.{Aids, sizeMeaning, valueMeaning, lowAfter, recordMeaning, unchanged, valueLines, recordLines, headLines, tableLines, frontLines, blocksIn, restLines, fileLines, listsOk, readLengthsOk, readFile}
 use Rattle.record_file.proofs.FileLaws.{size-small, front-parts}
 
 -- ---- a sheet has at most 1,024 blocks
@@ -117,4 +117,4 @@ file-below A s =
 pub read-below : (A : Aids) (samples records : ℕ) (s : List ℕ) → Below lineEnd (readFile A samples records s)
 unfolding readFile
 read-below A samples records s =
-    judged-below lineEnd 0 (unless (readLengthsOk samples records (length (A .list)) (A .count)) 2 0) (fileLines A s) (omega arith) (λ _. file-below A s)
+    judged-below lineEnd 0 (unless (readLengthsOk samples records (listsOk A)) 2 0) (fileLines A s) (omega arith) (λ _. file-below A s)

@@ -47,19 +47,19 @@ all-first f (suc m) h = rw (all-first f m (λ i l. h i (omega arith))) (h m (ome
 
 -- ---- writing
 
-pub record LengthsRight (S : Sheet) (words count values records space : ℕ) : Type 0 where
-  pub inside : count ≤ words
+pub record LengthsRight (S : Sheet) (patterns count values records space : ℕ) : Type 0 where
+  pub inside : count ≤ patterns
   pub few : count ≤ 9999
   pub enough : blocksOf S ≤ records
   pub room : spaceFor values (blocksOf S) ≤ space
 
 pub lengths-right :
-    (S : Sheet) (words count values records space : ℕ) → writeLengthsOk S words count values records space ≡ true
-    → LengthsRight S words count values records space
+    (S : Sheet) (patterns count values records space : ℕ) → writeLengthsOk S patterns count values records space ≡ true
+    → LengthsRight S patterns count values records space
 unfolding writeLengthsOk
-lengths-right S words count values records space h =
-    let a = both-of (countOk words count) _ h in
-    let b = both-of (leb count words) (leb count 9999) (a .0) in
+lengths-right S patterns count values records space h =
+    let a = both-of (countOk patterns count) _ h in
+    let b = both-of (leb count patterns) (leb count 9999) (a .0) in
     let c = both-of (leb (blocksOf S) records) (leb (spaceFor values (blocksOf S)) space) (a .1) in
     record {
       inside = leb-true _ _ (b .0);
@@ -69,10 +69,10 @@ lengths-right S words count values records space h =
     }
 
 pub right-lengths :
-    (S : Sheet) (words count values records space : ℕ) → LengthsRight S words count values records space
-    → writeLengthsOk S words count values records space ≡ true
+    (S : Sheet) (patterns count values records space : ℕ) → LengthsRight S patterns count values records space
+    → writeLengthsOk S patterns count values records space ≡ true
 unfolding writeLengthsOk
-right-lengths S words count values records space r =
+right-lengths S patterns count values records space r =
     rw (le-leb _ _ (r .inside), le-leb _ _ (r .few), le-leb _ _ (r .enough), le-leb _ _ (r .room))
 
 module _ (W : Source) (list : List ℕ) (count records space : ℕ) where

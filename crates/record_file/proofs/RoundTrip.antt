@@ -16,30 +16,43 @@ use Rattle.depth_table.specs.Table.{tableOk, bytes, rising}
 use Rattle.sheet.specs.declared.Sheet.{Sheet}
 use Rattle.sheet_blocks.specs.Grid.{blocks}
 use Rattle.sheet.specs.State.{stateOf, area, blocksOf}
-use Rattle.pattern.specs.Answer.{textured}
+use Rattle.pattern.specs.Size.{sizeOk}
+use Rattle.pattern.specs.Answer.{countOk, textured}
+use Rattle.pattern.proofs.SizeLaws.{size-each, each-size}
 use Rattle.record_text.specs.declared.fields.RecordFields.{RecordFields}
 use Rattle.record_text.specs.Lines.{Lined, read, judged}
 use Rattle.record_text.proofs.LinesLaws.{refused-read}
 use Rattle.record_file.specs.Text.{noRecord, fileText, sizeFieldsOf}
-use Rattle.record_file.specs.Reading.{File, fileOf, Aids, aidsOf, sizeMeaning, fileLines, readLengthsOk, ReadLengths, readFile}
+use Rattle.record_file.specs.Reading.{File, fileOf, Aids, sizeMeaning, fileLines, listsOk, readLengthsOk, ReadLengths, readFile}
 use Rattle.record_file.specs.Writing.{Source, sourceOf, spaceFor, writeRefusal, writtenText}
 use Rattle.record_file.proofs.MeaningLaws.{written-sound, read-sound}
 use Rattle.record_file.proofs.FileLaws.{FileSound, FileRead, size-small, file-reads, file-wrote}
 use Rattle.record_file.proofs.RefusalLaws.{accepted-parts, parts-accepted}
 
 -- the lengths that reading checks first
-pub read-lengths : (samples records words count : ℕ) → readLengthsOk samples records words count ≡ true → ReadLengths samples records words count
-unfolding readLengthsOk
-read-lengths samples records words count h =
-    let a = both-of (leb 16384 samples) _ h in
-    let b = both-of (leb 1024 records) _ (a .1) in
-    let c = both-of (leb count words) (leb count 9999) (b .1) in
-    record { samples-lent = leb-true _ _ (a .0); records-lent = leb-true _ _ (b .0); inside = leb-true _ _ (c .0); few = leb-true _ _ (c .1) }
+module _ (samples records : ℕ) (A : Aids) where
+  abbrev counted : ℕ → Bool
+  counted n = countOk (length (A .list n)) (A .count n)
 
-pub lengths-read : (samples records words count : ℕ) → ReadLengths samples records words count → readLengthsOk samples records words count ≡ true
-unfolding readLengthsOk
-lengths-read samples records words count r =
-    rw (le-leb _ _ (r .samples-lent), le-leb _ _ (r .records-lent), le-leb _ _ (r .inside), le-leb _ _ (r .few))
+  pub read-lengths : readLengthsOk samples records (listsOk A) ≡ true → ReadLengths samples records A
+  unfolding readLengthsOk
+  read-lengths h =
+      let a = both-of (leb 16384 samples) _ h in
+      let b = both-of (leb 1024 records) _ (a .1) in
+      let c : (n : ℕ) → sizeOk n ≡ true → (leb (A .count n) (length (A .list n)) ≡ true) × (leb (A .count n) 9999 ≡ true) =
+      λ n s. both-of (leb (A .count n) (length (A .list n))) (leb (A .count n) 9999) (each-size counted n (b .1) s) in
+      record {
+        samples-lent = leb-true _ _ (a .0);
+        records-lent = leb-true _ _ (b .0);
+        inside = λ n s. leb-true _ _ (c n s .0);
+        few = λ n s. leb-true _ _ (c n s .1);
+      }
+
+  pub lengths-read : ReadLengths samples records A → readLengthsOk samples records (listsOk A) ≡ true
+  unfolding readLengthsOk
+  lengths-read r =
+      rw (le-leb _ _ (r .samples-lent), le-leb _ _ (r .records-lent))
+      (size-each counted (λ n s. rw (le-leb _ _ (r .inside n s), le-leb _ _ (r .few n s))))
 
 -- what a source holds, as a file
 abbrev pub heldBy : Source → File
@@ -59,10 +72,20 @@ unfolding tableOk
 parts-table t a b c d = rw (le-leb _ _ a, le-leb _ _ b, c, d)
 
 module _
-    (W : Source) (list : List ℕ) (count records space : ℕ) (accepted : writeRefusal W list count records space ≡ 0)
-    (texture : List ℕ) (fits : (length texture ≡ 0) ⊎ (length texture ≡ area (W .sheet)))
-    (lent : (i : ℕ) → i < blocksOf (W .sheet) → W .record-at i .kind ≡ 1 → 0 < length texture)
+    (W : Source) (A : Aids) (records space : ℕ)
+    (accepted : writeRefusal W (A .list (W .sheet .n)) (A .count (W .sheet .n)) records space ≡ 0)
+    (fits : (length (A .texture) ≡ 0) ⊎ (length (A .texture) ≡ area (W .sheet)))
+    (lent : (i : ℕ) → i < blocksOf (W .sheet) → W .record-at i .kind ≡ 1 → 0 < length (A .texture))
   where
+    abbrev list : List ℕ
+    list = A .list (W .sheet .n)
+
+    abbrev count : ℕ
+    count = A .count (W .sheet .n)
+
+    abbrev texture : List ℕ
+    texture = A .texture
+
     texture-fits : (eqb (length texture) 0 || eqb (length texture) (area (W .sheet))) ≡ true
     texture-fits = ⊎-elim (λ e. rw (eq-eqb (length texture) 0 e)) (λ e. either (eqb (length texture) 0) (eq-eqb (length texture) (area (W .sheet)) e)) fits
       where
@@ -70,7 +93,7 @@ module _
         either true e = refl
         either false e = e
 
-    held-sound : FileSound (aidsOf list count texture) (heldBy W)
+    held-sound : FileSound A (heldBy W)
     unfolding sizeMeaning
     held-sound =
         let p = accepted-parts W list count records space accepted in
@@ -86,16 +109,13 @@ module _
               (read-sound (W .sheet .n) list count (textured texture) (W .record-at i) (λ e. lt-ltb 0 (length texture) (lent i k e)) (p .each i k));
         }
 
-    -- A written file, read with the same list and count, and with texture where it holds kind 1, gives back what was written.
+    -- A written file, read with the same list and count for its size, and with texture where it holds kind 1, gives back what was written.
     pub written-then-read :
-        (samples records-lent : ℕ) → 16384 ≤ samples → 1024 ≤ records-lent
-        → readFile (aidsOf list count texture) samples records-lent (writtenText W) ≡ read (heldBy W) []
+        (samples records-lent : ℕ) → ReadLengths samples records-lent A → readFile A samples records-lent (writtenText W) ≡ read (heldBy W) []
     unfolding readFile
-    written-then-read samples records-lent h l =
+    written-then-read samples records-lent r =
         let p = accepted-parts W list count records space accepted in
-        let r : ReadLengths samples records-lent (length list) count = record { samples-lent = h; records-lent = l; inside = p .lengths .inside; few = p .lengths .few } in
-        rw (lengths-read samples records-lent (length list) count r)
-        (file-reads (aidsOf list count texture) (heldBy W) (p .lengths .few) held-sound)
+        rw (lengths-read samples records-lent A r) (file-reads A (heldBy W) (p .lengths .few) held-sound)
 
 -- ---- and back
 
@@ -106,11 +126,11 @@ judged-read false next q = refused-read q
 -- what an accepted file says
 pub read-parts :
     (A : Aids) (samples lent : ℕ) (F : File) (s t : List ℕ) → readFile A samples lent s ≡ read F t
-    → ReadLengths samples lent (length (A .list)) (A .count) × FileRead A F s t
+    → ReadLengths samples lent A × FileRead A F s t
 unfolding readFile
 read-parts A samples lent F s t q =
-    let p = judged-read (readLengthsOk samples lent (length (A .list)) (A .count)) (fileLines A s) q in
-    (read-lengths samples lent (length (A .list)) (A .count) (p .0), file-wrote A F s t (p .1))
+    let p = judged-read (readLengthsOk samples lent (listsOk A)) (fileLines A s) q in
+    (read-lengths samples lent A (p .0), file-wrote A F s t (p .1))
 
 -- the finished state of a file
 abbrev pub sheetOf : File → Sheet
@@ -132,22 +152,22 @@ module _
 
     pub read-then-written :
         (records space : ℕ) → length (F .records) ≤ records → spaceFor (length (F .table)) (length (F .records)) ≤ space
-        → writeRefusal (sourceOf (sheetOf F) (F .table) at) (A .list) (A .count) records space ≡ 0
+        → writeRefusal (sourceOf (sheetOf F) (F .table) at) (A .list (F .n)) (A .count (F .n)) records space ≡ 0
     read-then-written records space enough room =
         let q = read-parts A samples lent F s t accepted in
         let f = q .1 .sound in
         let w = f .whole in
         let z = size-small (length (A .texture)) (sizeFieldsOf (F .n) (F .width) (F .height) (length (F .table))) (f .size) in
-        parts-accepted (sourceOf (sheetOf F) (F .table) at) (A .list) (A .count) records space
+        parts-accepted (sourceOf (sheetOf F) (F .table) at) (A .list (F .n)) (A .count (F .n)) records space
         (record {
           size = z .size;
-          lengths = record { inside = q .0 .inside; few = q .0 .few; enough = rw w at enough; room = rw w at room };
+          lengths = record { inside = q .0 .inside (F .n) (z .size); few = q .0 .few (F .n) (z .size); enough = rw w at enough; room = rw w at room };
           sides = z .sides;
           done = refl;
           sound = parts-table (F .table) (z .some) (z .values) (f .values) (f .rises);
           each = λ i l.
               let k : i < length (F .records) = omega (arith, w) in
-              rw (same i k) (written-sound (F .n) (A .list) (A .count) (textured (A .texture)) (getD (F .records) i noRecord) (f .each i k));
+              rw (same i k) (written-sound (F .n) (A .list (F .n)) (A .count (F .n)) (textured (A .texture)) (getD (F .records) i noRecord) (f .each i k));
         })
 
     pub read-nothing-left : t ≡ []

@@ -8,6 +8,7 @@ use Rattle.arith.specs.Checks.{given, refused}
 use Rattle.arith.specs.Lists.{listOf}
 use Rattle.depth_table.specs.Table.{tableOk, bytes, rising}
 use Rattle.depth_table.specs.Examples.{sampleTable}
+use Rattle.pattern.specs.Words.{patternAt, patternsOf}
 use Rattle.offset.specs.Offset.{offsetOk}
 use Rattle.sheet.specs.State.{stateOf, stateRefusal}
 use Rattle.record_checks.specs.Meaning.{recordRefusal}
@@ -41,9 +42,9 @@ sample-text : fileText 4 4 4 sampleTable (sampleRecord ∷ []) ≡ sampleFile
 unfolding fileText sizeTitle depthTitle recordTitle sizeText valueText recordText texts numberText signedText signedNumeral numeral digitsOf furtherDigits
 sample-text = refl
 
--- what it is read with: the first word of the list for n = 4, and no texture
+-- what it is read with: the first word of the list for n = 4, no other list, and no texture
 abbrev pub sampleAids : Aids
-sampleAids = aidsOf (65520 ∷ []) 1 []
+sampleAids = aidsOf (65520 ∷ []) 1 [] 0 [] 0 []
 
 abbrev reading : Aids → List ℕ → Lined File
 reading A s = readFile A 16384 1024 s
@@ -53,89 +54,98 @@ written table r = fileText 4 4 4 table (r ∷ [])
 
 -- document 01's file is read
 sample-read : reading sampleAids sampleFile ≡ read (fileOf 4 4 4 sampleTable (sampleRecord ∷ [])) []
-unfolding readFile readLengthsOk fileLines sizeMeaning valueMeaning recordRefusal offsetOk exactly sizeTitle depthTitle recordTitle sizeLine valueLine recordLine manyLines number signed moreDigits
+unfolding readFile readLengthsOk patternsOf patternAt listOf fileLines sizeMeaning valueMeaning recordRefusal offsetOk exactly sizeTitle depthTitle recordTitle sizeLine valueLine recordLine manyLines number signed moreDigits
 sample-read = refl
 
 -- refusal 2 as line 0: samples, records, the count
 short-samples : readFile sampleAids 16383 1024 sampleFile ≡ refusedAt 2 0
-unfolding readFile readLengthsOk
+unfolding readFile readLengthsOk patternsOf listOf
 short-samples = refl
 
 short-records : readFile sampleAids 16384 1023 sampleFile ≡ refusedAt 2 0
-unfolding readFile readLengthsOk
+unfolding readFile readLengthsOk patternsOf listOf
 short-records = refl
 
-count-above : reading (aidsOf (65520 ∷ []) 2 []) sampleFile ≡ refusedAt 2 0
-unfolding readFile readLengthsOk
+count-above : reading (aidsOf (65520 ∷ []) 2 [] 0 [] 0 []) sampleFile ≡ refusedAt 2 0
+unfolding readFile readLengthsOk patternsOf listOf
 count-above = refl
+
+-- a list that the file does not use is judged too: three words are no whole pattern for n = 16
+other-count : reading (aidsOf (65520 ∷ []) 1 [] 1 [] 0 []) sampleFile ≡ refusedAt 2 0
+unfolding readFile readLengthsOk patternsOf listOf
+other-count = refl
+
+three-words : reading (aidsOf (65520 ∷ []) 1 [] 0 (1 ∷ 1 ∷ 1 ∷ []) 1 []) sampleFile ≡ refusedAt 2 0
+unfolding readFile readLengthsOk patternsOf listOf
+three-words = refl
 
 -- refusal 9: no line, a last line without its end, a missing line, a byte past the last record
 empty-file : reading sampleAids [] ≡ refusedAt 9 1
-unfolding readFile readLengthsOk fileLines sizeMeaning valueMeaning recordRefusal offsetOk exactly sizeTitle depthTitle recordTitle sizeLine valueLine recordLine manyLines number signed moreDigits
+unfolding readFile readLengthsOk patternsOf patternAt listOf fileLines sizeMeaning valueMeaning recordRefusal offsetOk exactly sizeTitle depthTitle recordTitle sizeLine valueLine recordLine manyLines number signed moreDigits
 empty-file = refl
 
 no-last-end : reading sampleAids (take 80 sampleFile) ≡ refusedAt 9 8
-unfolding readFile readLengthsOk fileLines sizeMeaning valueMeaning recordRefusal offsetOk exactly sizeTitle depthTitle recordTitle sizeLine valueLine recordLine manyLines number signed moreDigits
+unfolding readFile readLengthsOk patternsOf patternAt listOf fileLines sizeMeaning valueMeaning recordRefusal offsetOk exactly sizeTitle depthTitle recordTitle sizeLine valueLine recordLine manyLines number signed moreDigits
 no-last-end = refl
 
 no-record : reading sampleAids (take 72 sampleFile) ≡ refusedAt 9 8
-unfolding readFile readLengthsOk fileLines sizeMeaning valueMeaning recordRefusal offsetOk exactly sizeTitle depthTitle recordTitle sizeLine valueLine recordLine manyLines number signed moreDigits
+unfolding readFile readLengthsOk patternsOf patternAt listOf fileLines sizeMeaning valueMeaning recordRefusal offsetOk exactly sizeTitle depthTitle recordTitle sizeLine valueLine recordLine manyLines number signed moreDigits
 no-record = refl
 
 byte-past : reading sampleAids (sampleFile ++ (10 ∷ [])) ≡ refusedAt 9 9
-unfolding readFile readLengthsOk fileLines sizeMeaning valueMeaning recordRefusal offsetOk exactly sizeTitle depthTitle recordTitle sizeLine valueLine recordLine manyLines number signed moreDigits
+unfolding readFile readLengthsOk patternsOf patternAt listOf fileLines sizeMeaning valueMeaning recordRefusal offsetOk exactly sizeTitle depthTitle recordTitle sizeLine valueLine recordLine manyLines number signed moreDigits
 byte-past = refl
 
 -- line 2: 1, 8, 2, 3
 wrong-n : reading sampleAids (fileText 5 4 4 sampleTable []) ≡ refusedAt 1 2
-unfolding readFile readLengthsOk fileLines sizeMeaning valueMeaning recordRefusal offsetOk exactly sizeTitle depthTitle recordTitle sizeLine valueLine recordLine manyLines number signed moreDigits fileText sizeText valueText recordText texts numberText signedText signedNumeral numeral digitsOf furtherDigits
+unfolding readFile readLengthsOk patternsOf patternAt listOf fileLines sizeMeaning valueMeaning recordRefusal offsetOk exactly sizeTitle depthTitle recordTitle sizeLine valueLine recordLine manyLines number signed moreDigits fileText sizeText valueText recordText texts numberText signedText signedNumeral numeral digitsOf furtherDigits
 wrong-n = refl
 
 wrong-side : reading sampleAids (fileText 4 6 4 sampleTable []) ≡ refusedAt 8 2
-unfolding readFile readLengthsOk fileLines sizeMeaning valueMeaning recordRefusal offsetOk exactly sizeTitle depthTitle recordTitle sizeLine valueLine recordLine manyLines number signed moreDigits fileText sizeText valueText recordText texts numberText signedText signedNumeral numeral digitsOf furtherDigits
+unfolding readFile readLengthsOk patternsOf patternAt listOf fileLines sizeMeaning valueMeaning recordRefusal offsetOk exactly sizeTitle depthTitle recordTitle sizeLine valueLine recordLine manyLines number signed moreDigits fileText sizeText valueText recordText texts numberText signedText signedNumeral numeral digitsOf furtherDigits
 wrong-side = refl
 
-wrong-texture : reading (aidsOf (65520 ∷ []) 1 (1 ∷ [])) sampleFile ≡ refusedAt 2 2
-unfolding readFile readLengthsOk fileLines sizeMeaning valueMeaning recordRefusal offsetOk exactly sizeTitle depthTitle recordTitle sizeLine valueLine recordLine manyLines number signed moreDigits
+wrong-texture : reading (aidsOf (65520 ∷ []) 1 [] 0 [] 0 (1 ∷ [])) sampleFile ≡ refusedAt 2 2
+unfolding readFile readLengthsOk patternsOf patternAt listOf fileLines sizeMeaning valueMeaning recordRefusal offsetOk exactly sizeTitle depthTitle recordTitle sizeLine valueLine recordLine manyLines number signed moreDigits
 wrong-texture = refl
 
 no-values : reading sampleAids (written [] sampleRecord) ≡ refusedAt 3 2
-unfolding readFile readLengthsOk fileLines sizeMeaning valueMeaning recordRefusal offsetOk exactly sizeTitle depthTitle recordTitle sizeLine valueLine recordLine manyLines number signed moreDigits fileText sizeText valueText recordText texts numberText signedText signedNumeral numeral digitsOf furtherDigits
+unfolding readFile readLengthsOk patternsOf patternAt listOf fileLines sizeMeaning valueMeaning recordRefusal offsetOk exactly sizeTitle depthTitle recordTitle sizeLine valueLine recordLine manyLines number signed moreDigits fileText sizeText valueText recordText texts numberText signedText signedNumeral numeral digitsOf furtherDigits
 no-values = refl
 
 -- a value's line: 3
 not-rising : reading sampleAids (written (100 ∷ 128 ∷ 128 ∷ []) sampleRecord) ≡ refusedAt 3 6
-unfolding readFile readLengthsOk fileLines sizeMeaning valueMeaning recordRefusal offsetOk exactly sizeTitle depthTitle recordTitle sizeLine valueLine recordLine manyLines number signed moreDigits fileText sizeText valueText recordText texts numberText signedText signedNumeral numeral digitsOf furtherDigits
+unfolding readFile readLengthsOk patternsOf patternAt listOf fileLines sizeMeaning valueMeaning recordRefusal offsetOk exactly sizeTitle depthTitle recordTitle sizeLine valueLine recordLine manyLines number signed moreDigits fileText sizeText valueText recordText texts numberText signedText signedNumeral numeral digitsOf furtherDigits
 not-rising = refl
 
 value-above : reading sampleAids (written (100 ∷ 256 ∷ []) sampleRecord) ≡ refusedAt 3 5
-unfolding readFile readLengthsOk fileLines sizeMeaning valueMeaning recordRefusal offsetOk exactly sizeTitle depthTitle recordTitle sizeLine valueLine recordLine manyLines number signed moreDigits fileText sizeText valueText recordText texts numberText signedText signedNumeral numeral digitsOf furtherDigits
+unfolding readFile readLengthsOk patternsOf patternAt listOf fileLines sizeMeaning valueMeaning recordRefusal offsetOk exactly sizeTitle depthTitle recordTitle sizeLine valueLine recordLine manyLines number signed moreDigits fileText sizeText valueText recordText texts numberText signedText signedNumeral numeral digitsOf furtherDigits
 value-above = refl
 
 -- a record's line: 7, 21, 6, 4
 kind-two : reading sampleAids (written sampleTable (record { kind = 2; entry = 0; off0 = pos 0; off1 = pos 0 })) ≡ refusedAt 7 8
-unfolding readFile readLengthsOk fileLines sizeMeaning valueMeaning recordRefusal offsetOk exactly sizeTitle depthTitle recordTitle sizeLine valueLine recordLine manyLines number signed moreDigits fileText sizeText valueText recordText texts numberText signedText signedNumeral numeral digitsOf furtherDigits
+unfolding readFile readLengthsOk patternsOf patternAt listOf fileLines sizeMeaning valueMeaning recordRefusal offsetOk exactly sizeTitle depthTitle recordTitle sizeLine valueLine recordLine manyLines number signed moreDigits fileText sizeText valueText recordText texts numberText signedText signedNumeral numeral digitsOf furtherDigits
 kind-two = refl
 
 contour-entry : reading sampleAids (written sampleTable (record { kind = 1; entry = 1; off0 = pos 0; off1 = pos 0 })) ≡ refusedAt 7 8
-unfolding readFile readLengthsOk fileLines sizeMeaning valueMeaning recordRefusal offsetOk exactly sizeTitle depthTitle recordTitle sizeLine valueLine recordLine manyLines number signed moreDigits fileText sizeText valueText recordText texts numberText signedText signedNumeral numeral digitsOf furtherDigits
+unfolding readFile readLengthsOk patternsOf patternAt listOf fileLines sizeMeaning valueMeaning recordRefusal offsetOk exactly sizeTitle depthTitle recordTitle sizeLine valueLine recordLine manyLines number signed moreDigits fileText sizeText valueText recordText texts numberText signedText signedNumeral numeral digitsOf furtherDigits
 contour-entry = refl
 
 no-texture : reading sampleAids (written sampleTable (record { kind = 1; entry = 0; off0 = pos 256; off1 = pos 0 })) ≡ refusedAt 21 8
-unfolding readFile readLengthsOk fileLines sizeMeaning valueMeaning recordRefusal offsetOk exactly sizeTitle depthTitle recordTitle sizeLine valueLine recordLine manyLines number signed moreDigits fileText sizeText valueText recordText texts numberText signedText signedNumeral numeral digitsOf furtherDigits
+unfolding readFile readLengthsOk patternsOf patternAt listOf fileLines sizeMeaning valueMeaning recordRefusal offsetOk exactly sizeTitle depthTitle recordTitle sizeLine valueLine recordLine manyLines number signed moreDigits fileText sizeText valueText recordText texts numberText signedText signedNumeral numeral digitsOf furtherDigits
 no-texture = refl
 
 entry-above : reading sampleAids (written sampleTable (record { kind = 0; entry = 1; off0 = pos 256; off1 = pos 0 })) ≡ refusedAt 6 8
-unfolding readFile readLengthsOk fileLines sizeMeaning valueMeaning recordRefusal offsetOk exactly sizeTitle depthTitle recordTitle sizeLine valueLine recordLine manyLines number signed moreDigits fileText sizeText valueText recordText texts numberText signedText signedNumeral numeral digitsOf furtherDigits
+unfolding readFile readLengthsOk patternsOf patternAt listOf fileLines sizeMeaning valueMeaning recordRefusal offsetOk exactly sizeTitle depthTitle recordTitle sizeLine valueLine recordLine manyLines number signed moreDigits fileText sizeText valueText recordText texts numberText signedText signedNumeral numeral digitsOf furtherDigits
 entry-above = refl
 
 offset-above : reading sampleAids (written sampleTable (record { kind = 0; entry = 0; off0 = pos 256; off1 = pos 0 })) ≡ refusedAt 4 8
-unfolding readFile readLengthsOk fileLines sizeMeaning valueMeaning recordRefusal offsetOk exactly sizeTitle depthTitle recordTitle sizeLine valueLine recordLine manyLines number signed moreDigits fileText sizeText valueText recordText texts numberText signedText signedNumeral numeral digitsOf furtherDigits
+unfolding readFile readLengthsOk patternsOf patternAt listOf fileLines sizeMeaning valueMeaning recordRefusal offsetOk exactly sizeTitle depthTitle recordTitle sizeLine valueLine recordLine manyLines number signed moreDigits fileText sizeText valueText recordText texts numberText signedText signedNumeral numeral digitsOf furtherDigits
 offset-above = refl
 
 -- 5: a word with a bit from 16 up
-word-above : reading (aidsOf (65536 ∷ []) 1 []) sampleFile ≡ refusedAt 5 8
-unfolding readFile readLengthsOk fileLines sizeMeaning valueMeaning recordRefusal offsetOk exactly sizeTitle depthTitle recordTitle sizeLine valueLine recordLine manyLines number signed moreDigits
+word-above : reading (aidsOf (65536 ∷ []) 1 [] 0 [] 0 []) sampleFile ≡ refusedAt 5 8
+unfolding readFile readLengthsOk patternsOf patternAt listOf fileLines sizeMeaning valueMeaning recordRefusal offsetOk exactly sizeTitle depthTitle recordTitle sizeLine valueLine recordLine manyLines number signed moreDigits
 word-above = refl
 
 -- writing it answers its length; it needs 80 + 4 * 3 + 32 bytes; a block is missing

@@ -1,11 +1,13 @@
 -- Document 01, "House file": reading the text, line by line. Assumes nothing.
 use Prim.Native.Nat.{ℕ, suc, _+_, _*_, _≤_}
-use mathlib.Core.Bool.{Bool, _&&_}
+use mathlib.Core.Bool.{Bool, true, _&&_}
+use mathlib.Core.Path.{_≡_}
 use mathlib.Core.List.{List}
 use lib.Dec.{leb, ltb}
 use lib.ListN.{length}
 use Rattle.arith.specs.Checks.{unless}
-use Rattle.pattern.specs.Size.{sizeOk}
+use Rattle.pattern.specs.Size.{sizeOk, eachSize, forSize}
+use Rattle.pattern.specs.Words.{patternsOf}
 use Rattle.pattern.specs.Answer.{countOk, textureOk, textured}
 use Rattle.sheet_blocks.specs.Grid.{blocks}
 use Rattle.sheet.specs.State.{stateOf, sidesOk}
@@ -28,14 +30,25 @@ pub record File : Type 0 where
 abbrev pub fileOf : ℕ → ℕ → ℕ → List ℕ → List RecordFields → File
 fileOf n width height table records = record { n = n; width = width; height = height; table = table; records = records }
 
--- a file is read with a wedgelet list (document 01: edge list) and its count, and texture; no texture is the empty list
+-- a file is read with a wedgelet list (document 01: edge list) for each size n, its patterns and their count, and with texture; no
+-- texture is the empty list
 pub record Aids : Type 0 where
-  pub list : List ℕ
-  pub count : ℕ
+  pub list : ℕ → List ℕ
+  pub count : ℕ → ℕ
   pub texture : List ℕ
 
-abbrev pub aidsOf : List ℕ → ℕ → List ℕ → Aids
-aidsOf list count texture = record { list = list; count = count; texture = texture }
+-- the lists are lent as words, one for each of the sizes 4, 8 and 16
+abbrev pub aidsOf : List ℕ → ℕ → List ℕ → ℕ → List ℕ → ℕ → List ℕ → Aids
+aidsOf words4 count4 words8 count8 words16 count16 texture =
+    record {
+      list = λ n. patternsOf n (forSize n words4 words8 words16);
+      count = λ n. forSize n count4 count8 count16;
+      texture = texture;
+    }
+
+-- every list's count is one that its patterns and 9,999 allow
+abbrev pub listsOk : Aids → Bool
+listsOk A = eachSize (λ n. countOk (length (A .list n)) (A .count n))
 
 -- the meaning of line 2. 1: the size; 8: a side; 2: texture neither empty nor of the sheet's size; 3: the table count
 unfoldable pub sizeMeaning : ℕ → SizeFields → ℕ
@@ -57,7 +70,7 @@ abbrev pub recordMeaningBy : ℕ → List ℕ → ℕ → Bool → Unit {0} → 
 recordMeaningBy n list count lent c r = recordRefusal n list count lent (meant r)
 
 abbrev pub recordMeaning : ℕ → Aids → Unit {0} → RecordFields → ℕ
-recordMeaning n A = recordMeaningBy n (A .list) (A .count) (textured (A .texture))
+recordMeaning n A = recordMeaningBy n (A .list n) (A .count n) (textured (A .texture))
 
 abbrev pub unchanged : Unit {0} → RecordFields → Unit {0}
 unchanged c r = c
@@ -70,14 +83,14 @@ abbrev pub recordLinesBy : ℕ → List ℕ → ℕ → Bool → ℕ → ℕ →
 recordLinesBy n list count lent m k s = manyLines recordLine (recordMeaningBy n list count lent) unchanged m k tt s
 
 abbrev pub recordLines : ℕ → Aids → ℕ → ℕ → List ℕ → Lined (List RecordFields)
-recordLines n A = recordLinesBy n (A .list) (A .count) (textured (A .texture))
+recordLines n A = recordLinesBy n (A .list n) (A .count n) (textured (A .texture))
 
 -- m records from line k on, and nothing after them: what is left is the line after the last
 abbrev pub lastLinesBy : ℕ → List ℕ → ℕ → Bool → ℕ → ℕ → List ℕ → Lined (List RecordFields)
 lastLinesBy n list count lent m k s = linesThen (recordLinesBy n list count lent m k s) λ records s. ended (k + m) records s
 
 abbrev pub lastLines : ℕ → Aids → ℕ → ℕ → List ℕ → Lined (List RecordFields)
-lastLines n A = lastLinesBy n (A .list) (A .count) (textured (A .texture))
+lastLines n A = lastLinesBy n (A .list n) (A .count n) (textured (A .texture))
 
 -- the first three lines
 abbrev pub headLines : ℕ → List ℕ → Lined SizeFields
@@ -112,18 +125,18 @@ fileLines A s =
     linesThen (restLines A (f .0) s) λ records s.
     read (fileOf (f .0 .n) (f .0 .width) (f .0 .height) (f .1) records) s
 
--- reading is lent 16,384 samples and 1,024 records, and a count that the lent words and 9,999 allow
-unfoldable pub readLengthsOk : ℕ → ℕ → ℕ → ℕ → Bool
-readLengthsOk samples records words count = leb 16384 samples && (leb 1024 records && countOk words count)
+-- reading is lent 16,384 samples, 1,024 records, and three lists; those of the sizes that the file does not have are judged too
+unfoldable pub readLengthsOk : ℕ → ℕ → Bool → Bool
+readLengthsOk samples records lists = leb 16384 samples && (leb 1024 records && lists)
 
 -- reading a file: the lengths are judged first, as line 0
 unfoldable pub readFile : Aids → ℕ → ℕ → List ℕ → Lined File
 readFile A samples records s =
-    judged (unless (readLengthsOk samples records (length (A .list)) (A .count)) 2 0) 0 (fileLines A s)
+    judged (unless (readLengthsOk samples records (listsOk A)) 2 0) 0 (fileLines A s)
 
 -- the lengths where they are not refused
-pub record ReadLengths (samples records words count : ℕ) : Type 0 where
+pub record ReadLengths (samples records : ℕ) (A : Aids) : Type 0 where
   pub samples-lent : 16384 ≤ samples
   pub records-lent : 1024 ≤ records
-  pub inside : count ≤ words
-  pub few : count ≤ 9999
+  pub inside : (n : ℕ) → sizeOk n ≡ true → A .count n ≤ length (A .list n)
+  pub few : (n : ℕ) → sizeOk n ≡ true → A .count n ≤ 9999

@@ -39,10 +39,10 @@ firstTo f (suc m) = first (firstTo f m) (f m)
 abbrev pub spaceFor : ℕ → ℕ → ℕ
 spaceFor values blocks = 80 + 4 * values + 32 * blocks
 
--- a count that the lent words and 9,999 allow, no fewer records than blocks, and space
+-- a count that the lent patterns and 9,999 allow, no fewer records than blocks, and space
 unfoldable pub writeLengthsOk : Sheet → ℕ → ℕ → ℕ → ℕ → ℕ → Bool
-writeLengthsOk S words count values records space =
-    countOk words count && (leb (blocksOf S) records && leb (spaceFor values (blocksOf S)) space)
+writeLengthsOk S patterns count values records space =
+    countOk patterns count && (leb (blocksOf S) records && leb (spaceFor values (blocksOf S)) space)
 
 -- how far the numbers of a record that is not refused go
 pub record Small (r : RecordFields) : Type 0 where
@@ -53,7 +53,7 @@ pub record Small (r : RecordFields) : Type 0 where
 
 -- how far the numbers of the size line go
 pub record HeadFits (S : Sheet) (values : ℕ) : Type 0 where
-  pub n : S .n ≤ 8
+  pub n : S .n ≤ 16
   pub width : S .width ≤ 128
   pub height : S .height ≤ 128
   pub table : values ≤ 256

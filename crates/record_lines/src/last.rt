@@ -2,6 +2,7 @@
 ghost use mathlib.Core.Path.{_≡_};
 ghost use Prim.Native.Nat.{_≤_};
 ghost use lib.ListN.{length};
+ghost use Rattle.pattern.specs.Words.{patternsOf};
 ghost use Rattle.sheet_checks.specs.Checks.{recordsLent};
 ghost use Rattle.record_front.specs.Told.{linesTold, only};
 ghost use Rattle.record_lines.specs.Stored.{Slices, putRecords, putOr};
@@ -13,7 +14,7 @@ use record_front::LinesRead;
 // Judges the lines of the records, and that nothing is after them. They are read into arrays of its own.
 fn judge_last(bytes: &[u8], list: &[u64], rows: Rows, textured: bool) -> LinesRead
     requires { ⌜ (rows .many ≤ 1024) × (rows .first ≤ 1000) ⌝ }
-    ensures { λ r. ⌜ linesTold (now (bytes .entry)) r ≡ only (lastRowLines rows (now (list .entry)) textured (now (bytes .entry))) ⌝ }
+    ensures { λ r. ⌜ linesTold (now (bytes .entry)) r ≡ only (lastRowLines rows (patternsOf (rows .n) (now (list .entry))) textured (now (bytes .entry))) ⌝ }
 {
     let mut kinds = [0u32; 1024];
     let mut entries = [0u32; 1024];
@@ -53,8 +54,8 @@ pub(crate) fn read_last(
     offs1: &mut [i32],
 ) -> LinesRead
     requires { ⌜ (rows .many ≤ recordsLent (length (now kinds)) (length (now entries)) (length (now offs0)) (length (now offs1))) × (rows .many ≤ 1024) × (rows .first ≤ 1000) ⌝ }
-    ensures answered { λ r. ⌜ linesTold (now (bytes .entry)) r ≡ only (lastRowLines rows (now (list .entry)) textured (now (bytes .entry))) ⌝ }
-    ensures kept { λ r. ⌜ _≡_ {A = Slices} (now (kinds .exit), (now (entries .exit), (now (offs0 .exit), now (offs1 .exit)))) (putOr (putRecords (now (kinds .entry), (now (entries .entry), (now (offs0 .entry), now (offs1 .entry))))) (lastRowLines rows (now (list .entry)) textured (now (bytes .entry))) (now (kinds .entry), (now (entries .entry), (now (offs0 .entry), now (offs1 .entry))))) ⌝ }
+    ensures answered { λ r. ⌜ linesTold (now (bytes .entry)) r ≡ only (lastRowLines rows (patternsOf (rows .n) (now (list .entry))) textured (now (bytes .entry))) ⌝ }
+    ensures kept { λ r. ⌜ _≡_ {A = Slices} (now (kinds .exit), (now (entries .exit), (now (offs0 .exit), now (offs1 .exit)))) (putOr (putRecords (now (kinds .entry), (now (entries .entry), (now (offs0 .entry), now (offs1 .entry))))) (lastRowLines rows (patternsOf (rows .n) (now (list .entry))) textured (now (bytes .entry))) (now (kinds .entry), (now (entries .entry), (now (offs0 .entry), now (offs1 .entry))))) ⌝ }
 {
     match judge_last(bytes, list, rows, textured) {
         LinesRead::Refused(number, line) => LinesRead::Refused(number, line),

@@ -8,6 +8,7 @@ ghost use Rattle.record_text.specs.Line.{recordLine};
 ghost use Rattle.record_text.specs.Lines.{line, read};
 ghost use Rattle.record_field.specs.Told.{remaining};
 ghost use Rattle.record_checks.specs.Meaning.{recordRefusal};
+ghost use Rattle.pattern.specs.Words.{patternsOf};
 ghost use Rattle.sheet_checks.specs.Checks.{recordsLent};
 ghost use Rattle.record_file.specs.Text.{meant};
 ghost use Rattle.record_front.specs.Told.{linesTold, only, PutIf};
@@ -45,7 +46,7 @@ fn one_record(
     textured: bool,
     k: u32,
 ) -> OneRead
-    ensures { λ r. ⌜ oneTold (now (bytes .entry)) r ≡ line k (recordLine (remaining (now (bytes .entry)) from)) (λ f. recordRefusal (rows .n) (now (list .entry)) (rows .count) textured (meant f)) read ⌝ }
+    ensures { λ r. ⌜ oneTold (now (bytes .entry)) r ≡ line k (recordLine (remaining (now (bytes .entry)) from)) (λ f. recordRefusal (rows .n) (patternsOf (rows .n) (now (list .entry))) (rows .count) textured (meant f)) read ⌝ }
 {
     let a = read_record_line(bytes, from);
     let RecordRead::Value(r, next) = a else {
@@ -93,8 +94,8 @@ pub(crate) fn read_records(
     offs1: &mut [i32],
 ) -> LinesRead
     requires { ⌜ (rows .many ≤ recordsLent (length (now kinds)) (length (now entries)) (length (now offs0)) (length (now offs1))) × (rows .many ≤ 1024) × (rows .first ≤ 1000) ⌝ }
-    ensures answered { λ r. ⌜ linesTold (now (bytes .entry)) r ≡ only (rowLines rows (now (list .entry)) textured (now (bytes .entry))) ⌝ }
-    ensures stored { λ r. ⌜ PutIf (putRecords (now (kinds .entry), (now (entries .entry), (now (offs0 .entry), now (offs1 .entry))))) (rowLines rows (now (list .entry)) textured (now (bytes .entry))) (now (kinds .exit), (now (entries .exit), (now (offs0 .exit), now (offs1 .exit)))) ⌝ }
+    ensures answered { λ r. ⌜ linesTold (now (bytes .entry)) r ≡ only (rowLines rows (patternsOf (rows .n) (now (list .entry))) textured (now (bytes .entry))) ⌝ }
+    ensures stored { λ r. ⌜ PutIf (putRecords (now (kinds .entry), (now (entries .entry), (now (offs0 .entry), now (offs1 .entry))))) (rowLines rows (patternsOf (rows .n) (now (list .entry))) textured (now (bytes .entry))) (now (kinds .exit), (now (entries .exit), (now (offs0 .exit), now (offs1 .exit)))) ⌝ }
 {
     let mut next = Cursor { at: rows.at };
     let mut i = 0;

@@ -14,7 +14,11 @@ use Rattle.sheet_checks.specs.Checks.{recordsLent}
 use Rattle.record_text.specs.declared.fields.SizeFields.{SizeFields}
 use Rattle.record_text.specs.Lines.{Lined, refusedAt, read}
 use Rattle.record_file.specs.Text.{meant, recordAt}
-use Rattle.record_file.specs.Reading.{File, fileOf, Aids, blocksIn, fileLines, readLengthsOk, readFile}
+use Rattle.pattern.specs.Answer.{countOk}
+use Rattle.pattern.specs.Size.{eachSize, forSize}
+use Rattle.pattern.specs.Words.{wholePatterns}
+use Rattle.pattern.proofs.WordLaws.{length-patterns}
+use Rattle.record_file.specs.Reading.{File, fileOf, Aids, aidsOf, blocksIn, fileLines, listsOk, readLengthsOk, ReadLengths, readFile}
 use Rattle.record_file.proofs.FileLaws.{size-small, file-wrote}
 use Rattle.record_file.proofs.LineBounds.{blocks-few}
 use Rattle.record_lines.specs.declared.whole.LinesBack.{LinesBack}
@@ -27,12 +31,20 @@ use Rattle.record_read.proofs.RestLaws.{record-back, lent-same, in-turn
 
 -- ---- the lengths
 
+-- the counts are set against the whole patterns of the lent words
+pub lists-lent :
+    (words4 words8 words16 : List ℕ) (count4 count8 count16 : ℕ) (texture : List ℕ)
+    → eachSize (λ n. countOk (wholePatterns n (forSize n (length words4) (length words8) (length words16))) (forSize n count4 count8 count16))
+    ≡ listsOk (aidsOf words4 count4 words8 count8 words16 count16 texture)
+lists-lent words4 words8 words16 count4 count8 count16 texture =
+    rw (length-patterns 4 words4, length-patterns 8 words8, length-patterns 16 words16)
+
 module _ (A : Aids) (samples records : ℕ) (s : List ℕ) where
-  pub read-short : readLengthsOk samples records (length (A .list)) (A .count) ≡ false → readFile A samples records s ≡ refusedAt 2 0
+  pub read-short : readLengthsOk samples records (listsOk A) ≡ false → readFile A samples records s ≡ refusedAt 2 0
   unfolding readFile
   read-short e = rw e
 
-  pub read-passed : readLengthsOk samples records (length (A .list)) (A .count) ≡ true → readFile A samples records s ≡ fileLines A s
+  pub read-passed : readLengthsOk samples records (listsOk A) ≡ true → readFile A samples records s ≡ fileLines A s
   unfolding readFile
   read-passed e = rw e
 
@@ -70,9 +82,10 @@ record Drawable (A : Aids) (F : File) : Type 0 where
       (t : List ℕ) → F .width * F .height ≤ length t
       → placedInTurn (emptySheet F) (materialIn A F) (recordIn F) (take (F .width * F .height) t) (blocksIn (headerOf F)) ≡ samplesIn A F
 
-drawable : (A : Aids) (s : List ℕ) (x : Lined File) → fileLines A s ≡ x → A .count ≤ length (A .list) → A .count ≤ 9999 → Drawable A (fileIn x)
+drawable :
+    (A : Aids) (s : List ℕ) (x : Lined File) → fileLines A s ≡ x → {samples records : ℕ} → ReadLengths samples records A → Drawable A (fileIn x)
 unfolding placedInTurn
-drawable A s (refusedAt n k) e inside few =
+drawable A s (refusedAt n k) e lengths =
     record {
       table = omega arith;
       width = omega arith;
@@ -82,7 +95,7 @@ drawable A s (refusedAt n k) e inside few =
       each = λ i l. absurd (omega (arith, l));
       same = λ t l. refl;
     }
-drawable A s (read F u) e inside few =
+drawable A s (read F u) e lengths =
     let ok = file-wrote A F s u e .sound in
     let z = size-small (length (A .texture)) (headerOf F) (ok .size) in
     record {
@@ -91,7 +104,7 @@ drawable A s (read F u) e inside few =
       height = z .height;
       blocks = blocks-few (length (A .texture)) (headerOf F) (ok .size);
       whole = ok .whole;
-      each = file-accepted A F ok inside few;
+      each = file-accepted A F ok (lengths .inside (F .n) (z .size)) (lengths .few (F .n) (z .size));
       same = λ t l.
           empty-same (F .n) (F .width) (F .height) (z .size) (z .sides) (materialIn A F) (recordIn F) (take (F .width * F .height) t)
           (length-take-le (F .width * F .height) t l);
@@ -105,11 +118,11 @@ table-first t h =
 
 -- the lines' answer b and the lent records afterwards, where reading gives x
 module _
-    (A : Aids) (s : List ℕ) (x : Lined File) (read-as : fileLines A s ≡ x) (inside : A .count ≤ length (A .list)) (few : A .count ≤ 9999)
+    (A : Aids) (s : List ℕ) (x : Lined File) (read-as : fileLines A s ≡ x) {samples records : ℕ} (lengths : ReadLengths samples records A)
     (b : LinesBack) (told : b ≡ linesBack x)
   where
     file : Drawable A (fileIn x)
-    file = drawable A s x read-as inside few
+    file = drawable A s x read-as lengths
 
     size-is : linesSize b ≡ headerOf (fileIn x)
     size-is = ap linesSize told ∙ go x
@@ -142,11 +155,11 @@ module _
     area-few = mul-le-mul {n₁ = fileIn x .width} {m₁ = fileIn x .height} {n₂ = 128} {m₂ = 128} (file .width) (file .height)
 
     -- the table and the samples have room
-    pub fits : {samples : ℕ} → 16384 ≤ samples → (b .values ≤ length (b .table)) × (b .width * b .height ≤ samples) × (b .width ≤ 128) × (b .height ≤ 128)
-    fits l =
+    pub fits : (b .values ≤ length (b .table)) × (b .width * b .height ≤ samples) × (b .width ≤ 128) × (b .height ≤ 128)
+    fits =
         let F = fileIn x in
         let t : length (F .table) ≤ length (sets (replicate 256 0) 0 (F .table)) = omega (arith, length-sets (replicate 256 0) 0 (F .table), length-replicate {A = ℕ} 256 0, file .table) in
-        rw (width-is, height-is, values-is, array-is) (t, le-trans area-few l, file .width, file .height)
+        rw (width-is, height-is, values-is, array-is) (t, le-trans area-few (lengths .samples-lent), file .width, file .height)
 
     pub blocks-fit : blocksIn (linesSize b) ≤ 1024
     blocks-fit = rw size-is (file .blocks)
@@ -186,17 +199,17 @@ module _
         -- each is accepted for its block
         pub accepted :
             (i : ℕ) → i < blocksIn (linesSize b)
-            → placeRefusal (after i (sheetOf b)) (b .width * b .height) (materialOf (A .list) (A .count) (tableOf b) (A .texture)) (meant (recordAt k e a o i)) ≡ 0
+            → placeRefusal (after i (sheetOf b)) (b .width * b .height) (materialOf (A .list (b .n)) (A .count (b .n)) (tableOf b) (A .texture)) (meant (recordAt k e a o i)) ≡ 0
         accepted i l = rw (table-is, record-is i l, n-is, width-is, height-is) (file .each i (rw size-is at l))
 
         -- the samples afterwards
         pub drawn :
             (t : List ℕ) → 16384 ≤ length t → {new : List ℕ}
-            → new ≡ placedInTurn (sheetOf b) (materialOf (A .list) (A .count) (tableOf b) (A .texture)) (λ i. meant (recordAt k e a o i)) (take (b .width * b .height) t) (blocksIn (linesSize b)) ++ drop (b .width * b .height) t
+            → new ≡ placedInTurn (sheetOf b) (materialOf (A .list (b .n)) (A .count (b .n)) (tableOf b) (A .texture)) (λ i. meant (recordAt k e a o i)) (take (b .width * b .height) t) (blocksIn (linesSize b)) ++ drop (b .width * b .height) t
             → new ≡ leaving x (λ F. samplesBack A F t) t
         drawn t enough {new} q =
             q
             ∙ ap (λ (l : List ℕ). l ++ drop (b .width * b .height) t)
-            (in-turn-ext (sheetOf b) (materialOf (A .list) (A .count) (tableOf b) (A .texture)) (λ i. meant (recordAt k e a o i)) (recordIn (fileIn x)) (take (b .width * b .height) t) (blocksIn (linesSize b)) record-is)
+            (in-turn-ext (sheetOf b) (materialOf (A .list (b .n)) (A .count (b .n)) (tableOf b) (A .texture)) (λ i. meant (recordAt k e a o i)) (recordIn (fileIn x)) (take (b .width * b .height) t) (blocksIn (linesSize b)) record-is)
             ∙ rw (table-is, n-is, width-is, height-is)
             (ap (λ (l : List ℕ). l ++ drop (fileIn x .width * fileIn x .height) t) (file .same t (le-trans area-few enough)) ∙ samples-are A x t)

@@ -106,20 +106,20 @@ module _ (A : Aids) (F : File) (ok : FileSound A F) where
 
   -- each is accepted for its block
   pub file-accepted :
-      A .count ≤ length (A .list) → A .count ≤ 9999 → (i : ℕ) → i < blocksOf (emptySheet F)
+      A .count (F .n) ≤ length (A .list (F .n)) → A .count (F .n) ≤ 9999 → (i : ℕ) → i < blocksOf (emptySheet F)
       → placeRefusal (after i (emptySheet F)) (F .width * F .height) (materialIn A F) (recordIn F i) ≡ 0
   unfolding placeRefusal
   file-accepted inside few i l =
       let S = after i (emptySheet F) in
       let s = size-small (length (A .texture)) (headerOf F) (ok .size) in
       let o : Open S = open-after (emptySheet F) i {u = S} (open-empty (F .n) (F .width) (F .height) (s .size) (s .sides)) (omega arith) refl in
-      let q : Lengths S (F .width * F .height) (length (A .list)) (A .count) (length (A .texture)) = record {
+      let q : Lengths S (F .width * F .height) (length (A .list (F .n))) (A .count (F .n)) (length (A .texture)) = record {
         whole = refl;
         optional = texture-fits;
         inside = inside;
         few = few;
       } in
-      open-none S (lengthsOk S (F .width * F .height) (length (A .list)) (A .count) (length (A .texture))) (F .table) _ o
-      (lengths-do S (F .width * F .height) (length (A .list)) (A .count) (length (A .texture)) q)
+      open-none S (lengthsOk S (F .width * F .height) (length (A .list (F .n))) (A .count (F .n)) (length (A .texture))) (F .table) _ o
+      (lengths-do S (F .width * F .height) (length (A .list (F .n))) (A .count (F .n)) (length (A .texture)) q)
       (parts-table (F .table) (s .some) (s .values) (ok .values) (ok .rises))
       ∙ ok .each i (rw (ok .whole) l)

@@ -18,7 +18,7 @@ abbrev pub emptySheet : File → Sheet
 emptySheet F = stateOf (F .n) (F .width) (F .height) 0
 
 abbrev pub materialIn : Aids → File → Material
-materialIn A F = materialOf (A .list) (A .count) (F .table) (A .texture)
+materialIn A F = materialOf (A .list (F .n)) (A .count (F .n)) (F .table) (A .texture)
 
 abbrev pub recordIn : File → ℕ → Record
 recordIn F k = meant (getD (F .records) k noRecord)

@@ -3,6 +3,10 @@ ghost use mathlib.Core.Path.{_≡_};
 ghost use mathlib.Core.List.{_++_};
 ghost use Prim.Native.Nat.{ℕ, _*_, _<_, _≤_};
 ghost use lib.ListN.{length, take, drop};
+ghost use mathlib.Core.Bool.{Bool};
+ghost use Rattle.pattern.specs.Answer.{countOk};
+ghost use Rattle.pattern.specs.Size.{eachSize, forSize};
+ghost use Rattle.pattern.specs.Words.{wholePatterns, patternsOf};
 ghost use Rattle.record_text.specs.Lines.{refusedAt};
 ghost use Rattle.sheet_checks.specs.Checks.{recordsLent};
 ghost use Rattle.sheet.specs.State.{after};
@@ -13,6 +17,9 @@ ghost use Rattle.record_lines.specs.Stored.{Slices};
 ghost use Rattle.record_lines.specs.Back.{linesSize, recordsBack, leaving};
 ghost use Rattle.record_read.specs.Back.{fileBack, samplesBack, sheetOf, tableOf, backOf};
 use pattern::count_ok;
+use pattern::whole_patterns;
+use record_file::count_for;
+use record_file::list_for;
 use record_file::record_at;
 use record_lines::LinesBack;
 use record_lines::read_lines;
@@ -21,9 +28,31 @@ use sheet::Placed;
 use sheet::Sheet;
 use sheet_checks::records_lent;
 
+// Whether each list's count is one that its whole patterns allow.
+fn lists_ok(
+    words4: usize,
+    count4: usize,
+    words8: usize,
+    count8: usize,
+    words16: usize,
+    count16: usize,
+) -> bool
+    ensures { λ r.
+        let lent : ℕ → Bool = λ n. countOk (wholePatterns n (forSize n words4 words8 words16)) (forSize n count4 count8 count16) in
+        ⌜ r ≡ eachSize lent ⌝ }
+{
+    if !count_ok(whole_patterns(4, words4), count4) {
+        return false;
+    }
+    if !count_ok(whole_patterns(8, words8), count8) {
+        return false;
+    }
+    count_ok(whole_patterns(16, words16), count16)
+}
+
 // Whether what is lent to reading is long enough.
-fn read_lengths_ok(samples: usize, records: usize, words: usize, count: usize) -> bool
-    ensures { λ r. ⌜ r ≡ readLengthsOk samples records words count ⌝ }
+fn read_lengths_ok(samples: usize, records: usize, lists: bool) -> bool
+    ensures { λ r. ⌜ r ≡ readLengthsOk samples records lists ⌝ }
 {
     if samples < 16384 {
         return false;
@@ -31,7 +60,7 @@ fn read_lengths_ok(samples: usize, records: usize, words: usize, count: usize) -
     if records < 1024 {
         return false;
     }
-    count_ok(words, count)
+    lists
 }
 
 // Places a record that is not refused, and hands the next state back.
@@ -44,9 +73,9 @@ fn place_one(
     texture: &[u8],
     r: RecordFields,
 ) -> Sheet
-    requires { ⌜ placeRefusal state (length (now samples)) (materialOf (now list) count (now table) (now texture)) (meant r) ≡ 0 ⌝ }
+    requires { ⌜ placeRefusal state (length (now samples)) (materialOf (patternsOf (state .n) (now list)) count (now table) (now texture)) (meant r) ≡ 0 ⌝ }
     ensures next { λ t. ⌜ t ≡ after 1 state ⌝ }
-    ensures left { λ t. ⌜ now (samples .exit) ≡ placedSamples state (materialOf (now (list .entry)) count (now (table .entry)) (now (texture .entry))) (now (samples .entry)) (meant r) ⌝ }
+    ensures left { λ t. ⌜ now (samples .exit) ≡ placedSamples state (materialOf (patternsOf (state .n) (now (list .entry))) count (now (table .entry)) (now (texture .entry))) (now (samples .entry)) (meant r) ⌝ }
 {
     let off0 = r.off0;
     let off1 = r.off1;
@@ -81,8 +110,8 @@ fn place_all(
     offs1: &[i32],
 )
     requires { ⌜ m ≤ recordsLent (length (now kinds)) (length (now entries)) (length (now offs0)) (length (now offs1)) ⌝ }
-    requires { ⌜ ((i : ℕ) → i < m → placeRefusal (after i sheet) (length (now samples)) (materialOf (now list) count (now table) (now texture)) (meant (recordAt (now kinds) (now entries) (now offs0) (now offs1) i)) ≡ 0) ⌝ }
-    ensures { λ _. ⌜ now (samples .exit) ≡ placedInTurn sheet (materialOf (now (list .entry)) count (now (table .entry)) (now (texture .entry))) (λ i. meant (recordAt (now (kinds .entry)) (now (entries .entry)) (now (offs0 .entry)) (now (offs1 .entry)) i)) (now (samples .entry)) m ⌝ }
+    requires { ⌜ ((i : ℕ) → i < m → placeRefusal (after i sheet) (length (now samples)) (materialOf (patternsOf (sheet .n) (now list)) count (now table) (now texture)) (meant (recordAt (now kinds) (now entries) (now offs0) (now offs1) i)) ≡ 0) ⌝ }
+    ensures { λ _. ⌜ now (samples .exit) ≡ placedInTurn sheet (materialOf (patternsOf (sheet .n) (now (list .entry))) count (now (table .entry)) (now (texture .entry))) (λ i. meant (recordAt (now (kinds .entry)) (now (entries .entry)) (now (offs0 .entry)) (now (offs1 .entry)) i)) (now (samples .entry)) m ⌝ }
 {
     let mut state = sheet;
     for i in 0..m {
@@ -132,8 +161,8 @@ fn fill(
 )
     requires { ⌜ (lines .values ≤ length (lines .table)) × (lines .width * lines .height ≤ length (now samples)) × (lines .width ≤ 128) × (lines .height ≤ 128) ⌝ }
     requires { ⌜ blocksIn (linesSize lines) ≤ recordsLent (length (now kinds)) (length (now entries)) (length (now offs0)) (length (now offs1)) ⌝ }
-    requires { ⌜ ((i : ℕ) → i < blocksIn (linesSize lines) → placeRefusal (after i (sheetOf lines)) (lines .width * lines .height) (materialOf (now list) count (tableOf lines) (now texture)) (meant (recordAt (now kinds) (now entries) (now offs0) (now offs1) i)) ≡ 0) ⌝ }
-    ensures { λ _. ⌜ now (samples .exit) ≡ placedInTurn (sheetOf lines) (materialOf (now (list .entry)) count (tableOf lines) (now (texture .entry))) (λ i. meant (recordAt (now (kinds .entry)) (now (entries .entry)) (now (offs0 .entry)) (now (offs1 .entry)) i)) (take (lines .width * lines .height) (now (samples .entry))) (blocksIn (linesSize lines)) ++ drop (lines .width * lines .height) (now (samples .entry)) ⌝ }
+    requires { ⌜ ((i : ℕ) → i < blocksIn (linesSize lines) → placeRefusal (after i (sheetOf lines)) (lines .width * lines .height) (materialOf (patternsOf (lines .n) (now list)) count (tableOf lines) (now texture)) (meant (recordAt (now kinds) (now entries) (now offs0) (now offs1) i)) ≡ 0) ⌝ }
+    ensures { λ _. ⌜ now (samples .exit) ≡ placedInTurn (sheetOf lines) (materialOf (patternsOf (lines .n) (now (list .entry))) count (tableOf lines) (now (texture .entry))) (λ i. meant (recordAt (now (kinds .entry)) (now (entries .entry)) (now (offs0 .entry)) (now (offs1 .entry)) i)) (take (lines .width * lines .height) (now (samples .entry))) (blocksIn (linesSize lines)) ++ drop (lines .width * lines .height) (now (samples .entry)) ⌝ }
 {
     let table = lines.table;
     let area = lines.width as usize * lines.height as usize;
@@ -185,12 +214,16 @@ fn told_back(lines: LinesBack) -> FileBack
     }
 }
 
-// Reads a file: its records, and the samples that placing them in turn on an empty sheet gives, come into the lent slices, and the
-// finished state and the table are answered; or a refusal and its line, and nothing is altered.
-pub fn read(
+// Reads a file with a list for each size: its records, and the samples that placing them in turn on an empty sheet gives, come into the
+// lent slices, and the finished state and the table are answered; or a refusal and its line, and nothing is altered.
+pub fn read<'a>(
     bytes: &[u8],
-    list: &[u64],
-    count: usize,
+    list4: &'a [u64],
+    count4: usize,
+    list8: &'a [u64],
+    count8: usize,
+    list16: &'a [u64],
+    count16: usize,
     texture: &[u8],
     samples: &mut [u8],
     kinds: &mut [u32],
@@ -198,20 +231,54 @@ pub fn read(
     offs0: &mut [i32],
     offs1: &mut [i32],
 ) -> FileBack
-    ensures answered { λ r. ⌜ r ≡ fileBack (readFile (aidsOf (now (list .entry)) count (now (texture .entry))) (length (now (samples .entry))) (recordsLent (length (now (kinds .entry))) (length (now (entries .entry))) (length (now (offs0 .entry))) (length (now (offs1 .entry)))) (now (bytes .entry))) ⌝ }
-    ensures kept { λ r. ⌜ _≡_ {A = Slices} (now (kinds .exit), (now (entries .exit), (now (offs0 .exit), now (offs1 .exit)))) (leaving (readFile (aidsOf (now (list .entry)) count (now (texture .entry))) (length (now (samples .entry))) (recordsLent (length (now (kinds .entry))) (length (now (entries .entry))) (length (now (offs0 .entry))) (length (now (offs1 .entry)))) (now (bytes .entry))) (λ F. recordsBack F (now (kinds .entry), (now (entries .entry), (now (offs0 .entry), now (offs1 .entry))))) (now (kinds .entry), (now (entries .entry), (now (offs0 .entry), now (offs1 .entry))))) ⌝ }
-    ensures drawn { λ r. ⌜ now (samples .exit) ≡ leaving (readFile (aidsOf (now (list .entry)) count (now (texture .entry))) (length (now (samples .entry))) (recordsLent (length (now (kinds .entry))) (length (now (entries .entry))) (length (now (offs0 .entry))) (length (now (offs1 .entry)))) (now (bytes .entry))) (λ F. samplesBack (aidsOf (now (list .entry)) count (now (texture .entry))) F (now (samples .entry))) (now (samples .entry)) ⌝ }
+    ensures answered { λ r.
+        let A = aidsOf (now (list4 .entry)) count4 (now (list8 .entry)) count8 (now (list16 .entry)) count16 (now (texture .entry)) in
+        let records = recordsLent (length (now (kinds .entry))) (length (now (entries .entry))) (length (now (offs0 .entry))) (length (now (offs1 .entry))) in
+        ⌜ r ≡ fileBack (readFile A (length (now (samples .entry))) records (now (bytes .entry))) ⌝ }
+    ensures kept { λ r.
+        let A = aidsOf (now (list4 .entry)) count4 (now (list8 .entry)) count8 (now (list16 .entry)) count16 (now (texture .entry)) in
+        let records = recordsLent (length (now (kinds .entry))) (length (now (entries .entry))) (length (now (offs0 .entry))) (length (now (offs1 .entry))) in
+        let old : Slices = (now (kinds .entry), (now (entries .entry), (now (offs0 .entry), now (offs1 .entry)))) in
+        ⌜ _≡_ {A = Slices} (now (kinds .exit), (now (entries .exit), (now (offs0 .exit), now (offs1 .exit))))
+        (leaving (readFile A (length (now (samples .entry))) records (now (bytes .entry))) (λ F. recordsBack F old) old) ⌝ }
+    ensures drawn { λ r.
+        let A = aidsOf (now (list4 .entry)) count4 (now (list8 .entry)) count8 (now (list16 .entry)) count16 (now (texture .entry)) in
+        let records = recordsLent (length (now (kinds .entry))) (length (now (entries .entry))) (length (now (offs0 .entry))) (length (now (offs1 .entry))) in
+        let old = now (samples .entry) in
+        ⌜ now (samples .exit) ≡ leaving (readFile A (length old) records (now (bytes .entry))) (λ F. samplesBack A F old) old ⌝ }
 {
     let records = records_lent(kinds.len(), entries.len(), offs0.len(), offs1.len());
-    if !read_lengths_ok(samples.len(), records, list.len(), count) {
+    let lists = lists_ok(
+        list4.len(),
+        count4,
+        list8.len(),
+        count8,
+        list16.len(),
+        count16,
+    );
+    if !read_lengths_ok(samples.len(), records, lists) {
         return refused_at(2, 0);
     }
-    let lines = read_lines(bytes, list, count, texture, kinds, entries, offs0, offs1);
+    let lines = read_lines(
+        bytes,
+        list4,
+        count4,
+        list8,
+        count8,
+        list16,
+        count16,
+        texture,
+        kinds,
+        entries,
+        offs0,
+        offs1,
+    );
+    let n = lines.n as usize;
     fill(
         lines,
         samples,
-        list,
-        count,
+        list_for(n, list4, list8, list16),
+        count_for(n, count4, count8, count16),
         texture,
         kinds,
         entries,

@@ -23,17 +23,17 @@ space-records v b s h l = go (leb b ((s - 80 - 4 * v) / 32)) refl
     go true e = let k = leb-true b ((s - 80 - 4 * v) / 32) e in sym (le-leb (spaceFor v b) s (omega arith))
     go false e = let k = leb-false b ((s - 80 - 4 * v) / 32) e in sym (lt-leb (spaceFor v b) s (omega arith))
 
-module _ (S : Sheet) (words count values records space : ℕ) where
-  pub write-count : countOk words count ≡ false → false ≡ writeLengthsOk S words count values records space
+module _ (S : Sheet) (patterns count values records space : ℕ) where
+  pub write-count : countOk patterns count ≡ false → false ≡ writeLengthsOk S patterns count values records space
   unfolding writeLengthsOk
   write-count h = rw h
 
-  pub write-records : countOk words count ≡ true → records < blocksOf S → false ≡ writeLengthsOk S words count values records space
+  pub write-records : countOk patterns count ≡ true → records < blocksOf S → false ≡ writeLengthsOk S patterns count values records space
   unfolding writeLengthsOk
   write-records h l = rw (h, lt-leb (blocksOf S) records l)
 
   pub write-space :
-      countOk words count ≡ true → blocksOf S ≤ records
-      → leb (spaceFor values (blocksOf S)) space ≡ writeLengthsOk S words count values records space
+      countOk patterns count ≡ true → blocksOf S ≤ records
+      → leb (spaceFor values (blocksOf S)) space ≡ writeLengthsOk S patterns count values records space
   unfolding writeLengthsOk
   write-space h l = rw (h, le-leb (blocksOf S) records l)

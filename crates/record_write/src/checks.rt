@@ -5,12 +5,14 @@ ghost use lib.Dec.{eqb, leb};
 ghost use lib.ListN.{length};
 ghost use Rattle.arith.specs.Checks.{unless};
 ghost use Rattle.depth_table.specs.Table.{tableOk};
+ghost use Rattle.pattern.specs.Words.{wholePatterns, patternsOf};
 ghost use Rattle.sheet_checks.specs.Checks.{recordsLent};
 ghost use Rattle.sheet.specs.State.{blocksOf, stateRefusal};
 ghost use Rattle.record_file.specs.Text.{recordAt};
 ghost use Rattle.record_file.specs.Writing.{firstTo, spaceFor, writeLengthsOk, writtenRefusal};
 use pattern::check;
 use pattern::count_ok;
+use pattern::whole_patterns;
 use record_file::record_at;
 use record_file::record_refusal;
 use sheet::Sheet;
@@ -40,9 +42,10 @@ pub(crate) fn write_lengths_ok(
     records: usize,
     space: usize,
 ) -> bool
-    ensures { λ r. ⌜ r ≡ writeLengthsOk sheet words count values records space ⌝ }
+    ensures { λ r. ⌜ r ≡ writeLengthsOk sheet (wholePatterns (sheet .n) words) count values records space ⌝ }
 {
-    if !count_ok(words, count) {
+    let patterns = whole_patterns(sheet.n as usize, words);
+    if !count_ok(patterns, count) {
         return false;
     }
     let blocks = sheet.blocks();
@@ -81,8 +84,8 @@ pub(crate) fn records_refusal(
     offs0: &[i32],
     offs1: &[i32],
 ) -> u8
-    requires { ⌜ (count ≤ length (now list)) × (m ≤ recordsLent (length (now kinds)) (length (now entries)) (length (now offs0)) (length (now offs1))) ⌝ }
-    ensures { λ r. ⌜ r ≡ firstTo (λ i. writtenRefusal n (now (list .entry)) count (recordAt (now (kinds .entry)) (now (entries .entry)) (now (offs0 .entry)) (now (offs1 .entry)) i)) m ⌝ }
+    requires { ⌜ m ≤ recordsLent (length (now kinds)) (length (now entries)) (length (now offs0)) (length (now offs1)) ⌝ }
+    ensures { λ r. ⌜ r ≡ firstTo (λ i. writtenRefusal n (patternsOf n (now (list .entry))) count (recordAt (now (kinds .entry)) (now (entries .entry)) (now (offs0 .entry)) (now (offs1 .entry)) i)) m ⌝ }
 {
     let mut refusal = 0;
     for i in 0..m {

@@ -2,6 +2,7 @@
 ghost use mathlib.Core.Path.{_≡_};
 ghost use Prim.Native.Nat.{ℕ, _+_, _*_, _<_, _≤_};
 ghost use lib.ListN.{length};
+ghost use Rattle.pattern.specs.Words.{patternsOf};
 ghost use Rattle.sheet_checks.specs.Checks.{recordsLent};
 ghost use Rattle.record_text.specs.Line.{valueText, recordText};
 ghost use Rattle.record_text.specs.Lines.{texts};
@@ -124,8 +125,8 @@ pub fn write(
     offs1: &[i32],
     out: &mut [u8],
 ) -> Wrote
-    ensures answered { λ r. ⌜ wroteTold r ≡ writeAnswer (sourceOf sheet (now (table .entry)) (recordAt (now (kinds .entry)) (now (entries .entry)) (now (offs0 .entry)) (now (offs1 .entry)))) (now (list .entry)) count (recordsLent (length (now (kinds .entry))) (length (now (entries .entry))) (length (now (offs0 .entry))) (length (now (offs1 .entry)))) (length (now (out .entry))) ⌝ }
-    ensures left { λ r. ⌜ now (out .exit) ≡ writeAfter (sourceOf sheet (now (table .entry)) (recordAt (now (kinds .entry)) (now (entries .entry)) (now (offs0 .entry)) (now (offs1 .entry)))) (now (list .entry)) count (recordsLent (length (now (kinds .entry))) (length (now (entries .entry))) (length (now (offs0 .entry))) (length (now (offs1 .entry)))) (now (out .entry)) ⌝ }
+    ensures answered { λ r. ⌜ wroteTold r ≡ writeAnswer (sourceOf sheet (now (table .entry)) (recordAt (now (kinds .entry)) (now (entries .entry)) (now (offs0 .entry)) (now (offs1 .entry)))) (patternsOf (sheet .n) (now (list .entry))) count (recordsLent (length (now (kinds .entry))) (length (now (entries .entry))) (length (now (offs0 .entry))) (length (now (offs1 .entry)))) (length (now (out .entry))) ⌝ }
+    ensures left { λ r. ⌜ now (out .exit) ≡ writeAfter (sourceOf sheet (now (table .entry)) (recordAt (now (kinds .entry)) (now (entries .entry)) (now (offs0 .entry)) (now (offs1 .entry)))) (patternsOf (sheet .n) (now (list .entry))) count (recordsLent (length (now (kinds .entry))) (length (now (entries .entry))) (length (now (offs0 .entry))) (length (now (offs1 .entry)))) (now (out .entry)) ⌝ }
 {
     let records = records_lent(kinds.len(), entries.len(), offs0.len(), offs1.len());
     let lengths = write_lengths_ok(sheet, list.len(), count, table.len(), records, out.len());

@@ -3,6 +3,7 @@ use Prim.Native.Nat.{ℕ, _+_, _≤_, _<_}
 use mathlib.Core.Path.{_≡_, refl, sym, _∙_, ap, subst}
 use mathlib.Core.List.{List, [], _++_}
 use native.Mathlib.Omega.{arith}
+use borrow.Author.Tests.{le-leb}
 use lib.ListN.{length, getD, take, drop, replicate, length-replicate}
 use lib.Seq.{sets, sets-eq, take-at}
 use Rattle.arith.specs.Checks.{given}
@@ -18,17 +19,17 @@ use Rattle.sheet.proofs.InTurnLaws.{placed-in-turn}
 use Rattle.record_text.specs.declared.fields.RecordFields.{RecordFields}
 use Rattle.record_text.specs.Lines.{Lined, refusedAt, read}
 use Rattle.record_file.specs.Text.{meant, noRecord, recordAt}
-use Rattle.record_file.specs.Reading.{File, Aids}
+use Rattle.record_file.specs.Reading.{File, Aids, readLengthsOk, ReadLengths}
 use Rattle.record_file.specs.Writing.{Source, sourceOf, spaceFor, writeRefusal, writtenText, writeAnswer, writeAfter}
 use Rattle.record_file.proofs.FileLaws.{size-small}
 use Rattle.record_file.proofs.LineBounds.{Below, lineEnd, blocks-few, read-below}
 use Rattle.record_file.proofs.RefusalLaws.{accepted-parts, accepted-head, accepted-small}
-use Rattle.record_file.proofs.RoundTrip.{heldBy, sheetOf, written-then-read, read-then-text, read-then-written, read-parts}
+use Rattle.record_file.proofs.RoundTrip.{read-lengths, heldBy, sheetOf, written-then-read, read-then-text, read-then-written, read-parts}
 use Rattle.record_lines.specs.Stored.{putRecords}
 use Rattle.record_read.specs.Back.{fileBack, recordIn, samplesBack}
 use Rattle.record_read.proofs.EmptyLaws.{empty-same}
 use Rattle.record_read.proofs.RestLaws.{record-back, lent-same, in-turn-none, in-turn-ext, file-accepted}
-use Rattle.round_trip.specs.Law.{Lent, lentRecords, reading, TextureFits, Enough, emptied, materialBy, recordsOf, drawnTo, placedBy, ReadsBack, ReadWritesBack, storedAt, samplesComposed, recordsComposed, aidsBy, WrittenAndRead, ComposedReadsBack, ComposedFrom, ContinuedReadsBack, RoundTrips}
+use Rattle.round_trip.specs.Law.{Lent, lentRecords, reading, TextureFits, Enough, emptied, materialBy, recordsOf, drawnTo, placedBy, ReadsBack, ReadWritesBack, storedAt, samplesComposed, recordsComposed, taskBy, WrittenAndRead, ComposedReadsBack, ComposedFrom, ContinuedReadsBack, RoundTrips}
 use Rattle.round_trip.proofs.LengthLaws.{text-fits}
 use Rattle.round_trip.proofs.ComposedSheet.{composed-means, ready, composed-room, each-accepted, composed-drawn, lengths, accepted-writes, accepted-fits}
 
@@ -59,27 +60,40 @@ module _ (W : Source) (list : List ℕ) (count records : ℕ) (old : List ℕ) (
 
 -- ---- what is written reads back
 
-module _
-    (W : Source) (A : Aids) (records k : ℕ) (old : List ℕ) (L : Lent) (answer : writeAnswer W (A .list) (A .count) records (length old) ≡ given k)
-    (fits : TextureFits W (A .texture)) (enough : Enough L)
-  where
-    abbrev file : List ℕ
-    file = take k (writeAfter W (A .list) (A .count) records old)
+enough-read : (A : Aids) (L : Lent) → Enough A L → ReadLengths (length (L .samples)) (lentRecords (L .records)) A
+unfolding readLengthsOk
+enough-read A L e =
+    read-lengths (length (L .samples)) (lentRecords (L .records)) A
+    (rw (le-leb 16384 (length (L .samples)) (e .samples), le-leb 1024 (lentRecords (L .records)) (e .records)) (e .lists))
 
-    answer-parts : (writeRefusal W (A .list) (A .count) records (length old) ≡ 0) × (length (writtenText W) ≡ k)
+module _
+    (W : Source) (A : Aids) (records k : ℕ) (old : List ℕ) (L : Lent)
+    (answer : writeAnswer W (A .list (W .sheet .n)) (A .count (W .sheet .n)) records (length old) ≡ given k)
+    (fits : TextureFits W (A .texture)) (enough : Enough A L)
+  where
+    abbrev list : List ℕ
+    list = A .list (W .sheet .n)
+
+    abbrev count : ℕ
+    count = A .count (W .sheet .n)
+
+    abbrev file : List ℕ
+    file = take k (writeAfter W list count records old)
+
+    answer-parts : (writeRefusal W list count records (length old) ≡ 0) × (length (writtenText W) ≡ k)
     unfolding writeAnswer
-    answer-parts = given-means (writeRefusal W (A .list) (A .count) records (length old)) (length (writtenText W)) k answer
+    answer-parts = given-means (writeRefusal W list count records (length old)) (length (writtenText W)) k answer
 
     file-is : file ≡ writtenText W
     file-is =
-        ap (take k) (text-left W (A .list) (A .count) records old (answer-parts .0))
+        ap (take k) (text-left W list count records old (answer-parts .0))
         ∙ take-at (writtenText W) (drop (length (writtenText W)) old) k (answer-parts .1)
 
     file-read : reading A L file ≡ read (heldBy W) []
     file-read =
         ap (reading A L) file-is
-        ∙ written-then-read W (A .list) (A .count) records (length old) (answer-parts .0) (A .texture) (fits .size) (fits .lent)
-        (length (L .samples)) (lentRecords (L .records)) (enough .samples) (enough .records)
+        ∙ written-then-read W A records (length old) (answer-parts .0) (fits .size) (fits .lent) (length (L .samples)) (lentRecords (L .records))
+        (enough-read A L enough)
 
     -- the samples of the file are those of the written records
     samples-placed : samplesBack A (heldBy W) (L .samples) ≡ placedBy A W ++ drop (area (W .sheet)) (L .samples)
@@ -97,14 +111,15 @@ module _
         × (placeAfter (after i (emptied (W .sheet))) (drawnTo A W s i) (materialBy A W) (recordsOf W i) ≡ drawnTo A W s (i + 1))
     placed-next s long i h =
         let F = heldBy W in
+        let p = accepted-parts W list count records (length old) (answer-parts .0) in
         let q = read-parts A (length (L .samples)) (lentRecords (L .records)) F file [] file-read in
         let e : placeRefusal (after i (emptied (W .sheet))) (area (W .sheet)) (materialBy A W) (recordsOf W i) ≡ 0 =
-        rw (listOf-at (W .record-at) noRecord (blocksOf (W .sheet)) i h) at (file-accepted A F (q .1 .sound) (q .0 .inside) (q .0 .few) i h) in
+        rw (listOf-at (W .record-at) noRecord (blocksOf (W .sheet)) i h) at (file-accepted A F (q .1 .sound) (q .0 .inside (F .n) (p .size)) (q .0 .few (F .n) (p .size)) i h) in
         placed-in-turn (emptied (W .sheet)) (materialBy A W) (recordsOf W) s i (rw long e)
 
     pub reads-back : ReadsBack W A L file
     reads-back =
-        let p = accepted-parts W (A .list) (A .count) records (length old) (answer-parts .0) in
+        let p = accepted-parts W list count records (length old) (answer-parts .0) in
         record {
           answer = ap fileBack file-read ∙ rw (p .done) refl;
           records = rw file-read refl;
@@ -123,7 +138,8 @@ module _ (A : Aids) (L : Lent) (F : File) (s t old : List ℕ) (accepted : readi
   writes table =
       let W = sourceOf (sheetOf F) table left in
       let lent = lentRecords (putRecords (L .records) (F .records)) in
-      (writeAnswer W (A .list) (A .count) lent (length old) ≡ given (length s)) × (writeAfter W (A .list) (A .count) lent old ≡ s ++ drop (length s) old)
+      (writeAnswer W (A .list (F .n)) (A .count (F .n)) lent (length old) ≡ given (length s))
+      × (writeAfter W (A .list (F .n)) (A .count (F .n)) lent old ≡ s ++ drop (length s) old)
 
   records-room : length (F .records) ≤ lentRecords (L .records)
   records-room =
@@ -140,8 +156,8 @@ module _ (A : Aids) (L : Lent) (F : File) (s t old : List ℕ) (accepted : readi
       let text = read-then-text A (length (L .samples)) (lentRecords (L .records)) F s t accepted left left-is in
       let none = read-then-written A (length (L .samples)) (lentRecords (L .records)) F s t accepted left left-is lent (length old)
       (omega (arith, records-room, lent-same (F .records) (L .records) refl)) space in (
-        text-answered W (A .list) (A .count) lent old none ∙ ap (λ (x : List ℕ). given (length x)) text,
-        text-left W (A .list) (A .count) lent old none ∙ ap (λ (x : List ℕ). x ++ drop (length x) old) text,
+        text-answered W (A .list (F .n)) (A .count (F .n)) lent old none ∙ ap (λ (x : List ℕ). given (length x)) text,
+        text-left W (A .list (F .n)) (A .count (F .n)) lent old none ∙ ap (λ (x : List ℕ). x ++ drop (length x) old) text,
       )
 
   -- the table comes back from the array that holds its values before zeros
@@ -176,25 +192,28 @@ read-writes A L s old none space =
 -- ---- a composed sheet reads back
 
 continued : ContinuedReadsBack
-continued S F T C L k records first old at from answer enough space lent =
+continued S F A table original reach C L k records first old at from answer enough space lent =
     let means = composed-means S T C answer in
     subst
     (λ (X : Sheet).
-    blocksOf X ≤ records → spaceFor (length (T .material .table)) (blocksOf X) ≤ length old
-    → WrittenAndRead (sourceOf X (T .material .table) at) (aidsBy (T .material)) records old L (samplesComposed S T C))
+    blocksOf X ≤ records → spaceFor (length table) (blocksOf X) ≤ length old
+    → WrittenAndRead (sourceOf X table at) A records old L (samplesComposed S T C))
     (means .1) (go (means .0)) enough space
   where
+    T : Task
+    T = taskBy A (S .n) table original reach
+
     go :
         composeRefusal S (length (C .samples)) T (lentRecords (C .records)) ≡ 0 → blocksOf S ≤ records
-        → spaceFor (length (T .material .table)) (blocksOf S) ≤ length old
-        → WrittenAndRead (sourceOf (finished S) (T .material .table) at) (aidsBy (T .material)) records old L (samplesComposed S T C)
+        → spaceFor (length table) (blocksOf S) ≤ length old
+        → WrittenAndRead (sourceOf (finished S) table at) A records old L (samplesComposed S T C)
     go none enough space =
         let M = T .material in
-        let W = sourceOf (finished S) (M .table) at in
+        let W = sourceOf (finished S) table at in
         let some : 0 < blocksOf S = omega (arith, ready S T C none .is-open .missing) in
         let each = each-accepted S T C first at from none in
         let written = text-answered W (M .list) (M .count) records old (accepted-writes S M first at some each records (length old) enough space) in
-        let back = reads-back W (aidsBy M) records (length (writtenText W)) old L written (accepted-fits S M first at some each) lent in
+        let back = reads-back W A records (length (writtenText W)) old L written (accepted-fits S M first at some each) lent in
         record {
           size = length (writtenText W);
           written = written;
@@ -218,9 +237,10 @@ new-sheet S T C e =
     }
 
 composed : ComposedReadsBack
-composed S F T C L k old e answer space lent =
+composed S F A table original reach C L k old e answer space lent =
+    let T = taskBy A (S .n) table original reach in
     let means = composed-means S T C answer in
-    continued S F T C L k (lentRecords (recordsComposed S T C)) (C .samples) old (storedAt (recordsComposed S T C)) (new-sheet S T C e) answer
+    continued S F A table original reach C L k (lentRecords (recordsComposed S T C)) (C .samples) old (storedAt (recordsComposed S T C)) (new-sheet S T C e) answer
     (rw (← means .1) (omega (arith, e, composed-room S T C (means .0)))) space lent
 
 -- All round trips hold.

@@ -3,6 +3,7 @@
 -- `compose` answer and leave, as their contracts have it. Assumes nothing.
 use Prim.Native.Nat.{ℕ, _+_, _≤_, _<_}
 use mathlib.Core.Path.{_≡_}
+use mathlib.Core.Bool.{true}
 use mathlib.Core.List.{List, _++_}
 use mathlib.Core.Logic.{_⊎_}
 use lib.ListN.{length, take, drop, replicate}
@@ -13,10 +14,10 @@ use Rattle.choice.specs.Record.{Record}
 use Rattle.sheet.specs.declared.Sheet.{Sheet}
 use Rattle.sheet.specs.State.{stateOf, after, area, blocksOf}
 use Rattle.sheet.specs.Place.{Material, materialOf, placeAnswer, placeAfter, placedInTurn}
-use Rattle.sheet.specs.Compose.{missing, Task, composeAnswer, composeAfter, composeField}
+use Rattle.sheet.specs.Compose.{missing, Task, taskOf, composeAnswer, composeAfter, composeField}
 use Rattle.sheet_checks.specs.Checks.{recordsLent}
 use Rattle.record_file.specs.Text.{meant, recordAt}
-use Rattle.record_file.specs.Reading.{File, Aids, aidsOf, readFile}
+use Rattle.record_file.specs.Reading.{File, Aids, listsOk, readFile}
 use Rattle.record_file.specs.Writing.{Source, sourceOf, spaceFor, writeAnswer, writeAfter}
 use Rattle.record_text.specs.declared.fields.RecordFields.{RecordFields}
 use Rattle.record_text.specs.Lines.{Lined}
@@ -57,17 +58,18 @@ pub record TextureFits (W : Source) (texture : List ℕ) : Type 0 where
   pub size : (length texture ≡ 0) ⊎ (length texture ≡ area (W .sheet))
   pub lent : (i : ℕ) → i < blocksOf (W .sheet) → W .record-at i .kind ≡ 1 → 0 < length texture
 
--- enough is lent to reading
-pub record Enough (L : Lent) : Type 0 where
+-- enough is lent to reading, and the count of each list, of all three sizes, is one that its patterns allow
+pub record Enough (A : Aids) (L : Lent) : Type 0 where
   pub samples : 16384 ≤ length (L .samples)
   pub records : 1024 ≤ lentRecords (L .records)
+  pub lists : listsOk A ≡ true
 
 -- the empty sheet of the same size, what the written records are placed with, and which they are
 abbrev pub emptied : Sheet → Sheet
 emptied S = stateOf (S .n) (S .width) (S .height) 0
 
 abbrev pub materialBy : Aids → Source → Material
-materialBy A W = materialOf (A .list) (A .count) (W .table) (A .texture)
+materialBy A W = materialOf (A .list (W .sheet .n)) (A .count (W .sheet .n)) (W .table) (A .texture)
 
 abbrev pub recordsOf : Source → ℕ → Record
 recordsOf W i = meant (W .record-at i)
@@ -96,12 +98,14 @@ pub record ReadsBack (W : Source) (A : Aids) (L : Lent) (s : List ℕ) : Type 0 
   -- the last ones are the samples above, whatever stood on the sheet before
   pub same : (old : List ℕ) → length old ≡ area (W .sheet) → drawnTo A W old (blocksOf (W .sheet)) ≡ placedBy A W
 
--- Where `write` answers the length k, the first k bytes that it leaves read back as what was written, with the same list and count.
+-- Where `write` answers the length k, the first k bytes that it leaves read back as what was written, with the same list and count for
+-- the sheet's size.
 abbrev pub WrittenReadsBack : Type 0
 WrittenReadsBack =
     (W : Source) (A : Aids) (records k : ℕ) (old : List ℕ) (L : Lent)
-    → writeAnswer W (A .list) (A .count) records (length old) ≡ given k → TextureFits W (A .texture) → Enough L
-    → ReadsBack W A L (take k (writeAfter W (A .list) (A .count) records old))
+    → let n = W .sheet .n in
+    writeAnswer W (A .list n) (A .count n) records (length old) ≡ given k → TextureFits W (A .texture) → Enough A L
+    → ReadsBack W A L (take k (writeAfter W (A .list n) (A .count n) records old))
 
 -- ---- what is accepted is what is written of it
 
@@ -117,8 +121,9 @@ ReadWritesBack =
     (A : Aids) (L : Lent) (s old : List ℕ)
     → answered A L s .refusal ≡ 0
     → spaceFor (answered A L s .values) (blocksOf (answered A L s .sheet)) ≤ length old
-    → (writeAnswer (readSource A L s) (A .list) (A .count) (lentRecords (recordsLeft A L s)) (length old) ≡ given (length s))
-    × (writeAfter (readSource A L s) (A .list) (A .count) (lentRecords (recordsLeft A L s)) old ≡ s ++ drop (length s) old)
+    → let n = answered A L s .sheet .n in
+    (writeAnswer (readSource A L s) (A .list n) (A .count n) (lentRecords (recordsLeft A L s)) (length old) ≡ given (length s))
+    × (writeAfter (readSource A L s) (A .list n) (A .count n) (lentRecords (recordsLeft A L s)) old ≡ s ++ drop (length s) old)
 
 -- ---- a composed sheet reads back
 
@@ -144,27 +149,31 @@ recordsComposed S T C = (
   ),
 )
 
--- the list, count and texture that a sheet is composed with
-abbrev pub aidsBy : Material → Aids
-aidsBy M = aidsOf (M .list) (M .count) (M .texture)
+-- composing a sheet of size n with the list, count and texture of A
+abbrev pub taskBy : Aids → ℕ → List ℕ → List ℕ → ℕ → Task
+taskBy A n table original reach = taskOf (materialOf (A .list n) (A .count n) table (A .texture)) original reach
+
+-- what `write` leaves in the lent bytes, with the list and count of A for the sheet's size
+abbrev pub writtenWith : Aids → Source → ℕ → List ℕ → List ℕ
+writtenWith A W records old = writeAfter W (A .list (W .sheet .n)) (A .count (W .sheet .n)) records old
 
 -- `write` takes W and answers a length; as many bytes of what it leaves read back as W, and the samples are those that were composed
 pub record WrittenAndRead (W : Source) (A : Aids) (records : ℕ) (old : List ℕ) (L : Lent) (composed : List ℕ) : Type 0 where
   pub size : ℕ
-  pub written : writeAnswer W (A .list) (A .count) records (length old) ≡ given size
-  pub back : ReadsBack W A L (take size (writeAfter W (A .list) (A .count) records old))
-  pub samples :
-      samplesLeft A L (take size (writeAfter W (A .list) (A .count) records old)) ≡ composed ++ drop (area (W .sheet)) (L .samples)
+  pub written : writeAnswer W (A .list (W .sheet .n)) (A .count (W .sheet .n)) records (length old) ≡ given size
+  pub back : ReadsBack W A L (take size (writtenWith A W records old))
+  pub samples : samplesLeft A L (take size (writtenWith A W records old)) ≡ composed ++ drop (area (W .sheet)) (L .samples)
 
 -- Where `compose` takes a new sheet, with no block placed, and answers the finished state F, `write` takes F, the table and the composed
 -- records, if space enough is lent; `read`, with the list, count and texture of composing, gives them back, and the composed samples.
 abbrev pub ComposedReadsBack : Type 0
 ComposedReadsBack =
-    (S F : Sheet) (T : Task) (C L : Lent) (k : ℕ) (old : List ℕ)
-    → S .placed ≡ 0 → composing S T C ≡ given (F, k)
-    → spaceFor (length (T .material .table)) (blocksOf F) ≤ length old → Enough L
+    (S F : Sheet) (A : Aids) (table original : List ℕ) (reach : ℕ) (C L : Lent) (k : ℕ) (old : List ℕ)
+    → let T = taskBy A (S .n) table original reach in
+    S .placed ≡ 0 → composing S T C ≡ given (F, k)
+    → spaceFor (length table) (blocksOf F) ≤ length old → Enough A L
     → let left = recordsComposed S T C in
-    WrittenAndRead (sourceOf F (T .material .table) (storedAt left)) (aidsBy (T .material)) (lentRecords left) old L (samplesComposed S T C)
+    WrittenAndRead (sourceOf F table (storedAt left)) A (lentRecords left) old L (samplesComposed S T C)
 
 -- the records `at` of a sheet that is composed from the state S on: `place` accepted the first of them in turn on an empty sheet, where the
 -- samples `old` stood before, and left the samples that are lent to composing; the others are those that `compose` leaves
@@ -179,12 +188,13 @@ pub record ComposedFrom (S : Sheet) (T : Task) (C : Lent) (old : List ℕ) (at :
 -- The same of a sheet on which records were placed before: they come first in the file. `records` is how many are lent to `write`.
 abbrev pub ContinuedReadsBack : Type 0
 ContinuedReadsBack =
-    (S F : Sheet) (T : Task) (C L : Lent) (k records : ℕ) (first old : List ℕ) (at : ℕ → RecordFields)
-    → ComposedFrom S T C first at → composing S T C ≡ given (F, k)
-    → blocksOf F ≤ records → spaceFor (length (T .material .table)) (blocksOf F) ≤ length old → Enough L
-    → WrittenAndRead (sourceOf F (T .material .table) at) (aidsBy (T .material)) records old L (samplesComposed S T C)
+    (S F : Sheet) (A : Aids) (table original : List ℕ) (reach : ℕ) (C L : Lent) (k records : ℕ) (first old : List ℕ) (at : ℕ → RecordFields)
+    → let T = taskBy A (S .n) table original reach in
+    ComposedFrom S T C first at → composing S T C ≡ given (F, k)
+    → blocksOf F ≤ records → spaceFor (length table) (blocksOf F) ≤ length old → Enough A L
+    → WrittenAndRead (sourceOf F table at) A records old L (samplesComposed S T C)
 
--- all of them, for every list, count, table, records and texture
+-- all of them, for every size, list, count, table, records and texture
 pub record RoundTrips : Type 0 where
   pub written-reads-back : WrittenReadsBack
   pub read-writes-back : ReadWritesBack

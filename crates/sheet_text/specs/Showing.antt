@@ -3,10 +3,10 @@ use Prim.Native.Nat.{ℕ, _+_, _*_, _≤_}
 use mathlib.Core.Path.{_≡_}
 use mathlib.Core.Bool.{cond}
 use mathlib.Core.List.{List, [], _++_}
-use lib.Dec.{leb}
+use lib.Dec.{eqb, leb}
 use lib.ListN.{length, take, drop}
 use Rattle.arith.specs.Checks.{unless, Answer, answer, lent}
-use Rattle.pattern.specs.Size.{sizeOk}
+use Rattle.pattern.specs.Words.{wordsOf, wordList}
 use Rattle.wedgelet.specs.Wedgelet.{wedgeletList}
 use Rattle.record_text.specs.declared.fields.SizeFields.{SizeFields}
 use Rattle.record_field.specs.Parsed.{Parsed, badForm, found, andThen, exactly}
@@ -26,16 +26,23 @@ sizeBy (found z s) = z .n
 unfoldable pub sizeIn : List ℕ → ℕ
 sizeIn s = sizeBy (andThen (exactly sizeTitle s) (λ _ t. sizeLine t))
 
--- What a file of size n is read with: the wedgelet list (document 01: the edge list) for n, its count, and no texture. For a size that is
--- not allowed there is no list, and the file is refused before a record is read.
-unfoldable pub aidsFor : ℕ → Aids
-aidsFor n = cond (sizeOk n) (aidsOf (wedgeletList n) (length (wedgeletList n)) []) (aidsOf [] 0 [])
+-- what a file is read with where a list and its count are lent for size n alone, with none for the other sizes and no texture
+abbrev pub aidsAlone : ℕ → List ℕ → ℕ → Aids
+aidsAlone n words count =
+    aidsOf (cond (eqb n 4) words []) (cond (eqb n 4) count 0)
+    (cond (eqb n 8) words []) (cond (eqb n 8) count 0)
+    (cond (eqb n 16) words []) (cond (eqb n 16) count 0) []
 
--- a list whose first words, as many as the count says, are the ones that a file of size n is read with
+-- What a file of size n is read with: the wedgelet list (document 01: the edge list) for n and its count. For a size that is not allowed
+-- there is no list, and the file is refused before a record is read.
+unfoldable pub aidsFor : ℕ → Aids
+aidsFor n = aidsAlone n (wordList n (wedgeletList n)) (length (wedgeletList n))
+
+-- a list whose first words, as many as the count's patterns have, are the ones that a file of size n is read with
 pub record Listing (n : ℕ) (list : List ℕ) (count : ℕ) : Type 0 where
-  pub inside : count ≤ length list
-  pub whole : count ≡ length (take count list)
-  pub aids : aidsOf (take count list) count [] ≡ aidsFor n
+  pub inside : wordsOf n * count ≤ length list
+  pub whole : wordsOf n * count ≡ length (take (wordsOf n * count) list)
+  pub aids : aidsAlone n (take (wordsOf n * count) list) count ≡ aidsFor n
 
 -- the text of what reading found
 abbrev pub textBy : Aids → Lined File → List ℕ

@@ -1,14 +1,16 @@
 // What is shown of a record file's bytes.
 ghost use mathlib.Core.Path.{_≡_};
 ghost use Prim.Native.Nat.{_≤_};
+ghost use mathlib.Core.Bool.{cond};
 ghost use mathlib.Core.List.{[]};
 ghost use lib.ListN.{length};
 ghost use Rattle.record_print.specs.Put.{Written};
-ghost use Rattle.record_file.specs.Reading.{aidsOf};
+ghost use Rattle.wedgelet.specs.Answer.{mostWords};
 ghost use Rattle.record_read.specs.Back.{samplesBack, fileBack};
 ghost use Rattle.record_lines.specs.Back.{leaving};
-ghost use Rattle.sheet_text.specs.Showing.{sizeIn, Listing, textBy, readWith, showSpace, showAnswer, showAfter};
+ghost use Rattle.sheet_text.specs.Showing.{sizeIn, aidsAlone, Listing, textBy, readWith, showSpace, showAnswer, showAfter};
 ghost use Rattle.sheet_text.specs.Told.{shownTold};
+use pattern::words_of;
 use record_field::Cursor;
 use record_read::FileBack;
 use record_text::SizeRead;
@@ -17,6 +19,7 @@ use record_text::read_size_line;
 use record_text::read_size_title;
 use sheet_print::put_refusal;
 use sheet_print::put_sheet;
+use wedgelet::LIST_WORDS;
 use wedgelet::Listed;
 
 // What `show_text` answers: the length of the text, or the number of its refusal.
@@ -42,7 +45,7 @@ fn size_in(bytes: &[u8]) -> u32
 
 // The wedgelet list for n in the first words of `list`, and its count; no word and 0 where n is not allowed.
 fn build_list(n: usize, list: &mut [u64]) -> usize
-    requires { ⌜ 756 ≤ length (now list) ⌝ }
+    requires { ⌜ mostWords ≤ length (now list) ⌝ }
     ensures { λ r. ⌜ Listing n (now (list .exit)) r ⌝ }
 {
     let listed = wedgelet::wedgelets(n, list);
@@ -52,11 +55,31 @@ fn build_list(n: usize, list: &mut [u64]) -> usize
     }
 }
 
-// Reads a file with a list and its count, and no texture, into the lent samples; what reading answers.
-fn read_samples(bytes: &[u8], list: &[u64], count: usize, samples: &mut [u8]) -> FileBack
+// A list where it is the one for the size, else none of its words.
+fn own_list<'a>(own: bool, list: &'a [u64]) -> &'a [u64]
+    ensures { λ r. ⌜ now r ≡ cond own (now (list .entry)) [] ⌝ }
+{
+    if own {
+        return list;
+    }
+    &list[..0]
+}
+
+// Its count, else 0.
+fn own_count(own: bool, count: usize) -> usize
+    ensures { λ r. ⌜ r ≡ cond own count 0 ⌝ }
+{
+    if own { count } else { 0 }
+}
+
+// Reads a file with a list and its count for size n, with empty ones beside it and no texture, into the lent samples; what reading answers.
+fn read_samples(bytes: &[u8], n: usize, list: &[u64], count: usize, samples: &mut [u8]) -> FileBack
     requires { ⌜ length (now samples) ≡ 16384 ⌝ }
-    ensures answered { λ r. ⌜ r ≡ fileBack (readWith (aidsOf (now (list .entry)) count []) (now (bytes .entry))) ⌝ }
-    ensures drawn { λ r. ⌜ now (samples .exit) ≡ leaving (readWith (aidsOf (now (list .entry)) count []) (now (bytes .entry))) (λ F. samplesBack (aidsOf (now (list .entry)) count []) F (now (samples .entry))) (now (samples .entry)) ⌝ }
+    ensures answered { λ r. ⌜ r ≡ fileBack (readWith (aidsAlone n (now (list .entry)) count) (now (bytes .entry))) ⌝ }
+    ensures drawn { λ r.
+        let A = aidsAlone n (now (list .entry)) count in
+        let old = now (samples .entry) in
+        ⌜ now (samples .exit) ≡ leaving (readWith A (now (bytes .entry))) (λ F. samplesBack A F old) old ⌝ }
 {
     let mut kinds = [0u32; 1024];
     let mut entries = [0u32; 1024];
@@ -64,8 +87,12 @@ fn read_samples(bytes: &[u8], list: &[u64], count: usize, samples: &mut [u8]) ->
     let mut offs1 = [0i32; 1024];
     record_read::read(
         bytes,
-        list,
-        count,
+        own_list(n == 4, list),
+        own_count(n == 4, count),
+        own_list(n == 8, list),
+        own_count(n == 8, count),
+        own_list(n == 16, list),
+        own_count(n == 16, count),
         b"",
         samples,
         &mut kinds,
@@ -75,13 +102,15 @@ fn read_samples(bytes: &[u8], list: &[u64], count: usize, samples: &mut [u8]) ->
     )
 }
 
-// The text of what reading with a list and its count finds, from the start of `out`; its length.
-fn put_read(bytes: &[u8], list: &[u64], count: usize, out: &mut [u8]) -> usize
+// The text of what reading with a list and its count for size n finds, from the start of `out`; its length.
+fn put_read(bytes: &[u8], n: usize, list: &[u64], count: usize, out: &mut [u8]) -> usize
     requires { ⌜ showSpace ≤ length (now out) ⌝ }
-    ensures { λ r. ⌜ Written (now (out .entry)) (now (out .exit)) 0 (textBy (aidsOf (now (list .entry)) count []) (readWith (aidsOf (now (list .entry)) count []) (now (bytes .entry)))) r ⌝ }
+    ensures { λ r.
+        let A = aidsAlone n (now (list .entry)) count in
+        ⌜ Written (now (out .entry)) (now (out .exit)) 0 (textBy A (readWith A (now (bytes .entry)))) r ⌝ }
 {
     let mut samples = [0u8; 16384];
-    let back = read_samples(bytes, list, count, &mut samples);
+    let back = read_samples(bytes, n, list, count, &mut samples);
     if back.refusal != 0 {
         return put_refusal(out, back.refusal, back.line);
     }
@@ -97,8 +126,9 @@ pub fn show_text(bytes: &[u8], out: &mut [u8]) -> Shown
     if out.len() < 65563 {
         return Shown::Refused(2);
     }
-    let n = size_in(bytes);
-    let mut list = [0u64; 756];
-    let count = build_list(n as usize, &mut list);
-    Shown::Length(put_read(bytes, &list[..count], count, out))
+    let n = size_in(bytes) as usize;
+    let mut list = [0u64; LIST_WORDS];
+    let count = build_list(n, &mut list);
+    let words = words_of(n) * count;
+    Shown::Length(put_read(bytes, n, &list[..words], count, out))
 }

@@ -6,6 +6,7 @@ use lib.IntN.{ℤ}
 use mir.Syntax.{w32}
 use mir.Val.{toZ, ofZ}
 use mir.ValLaws.{toZ-ofZ}
+use Rattle.pattern.specs.Words.{patternsOf}
 use Rattle.record_checks.specs.Meaning.{recordOf, recordRefusal}
 use Rattle.record_file.proofs.meaning.record_refusal.Statement.{statement}
 use Rattle.record_file.proofs.meaning.record_refusal.Tie as tie
@@ -17,7 +18,7 @@ returns : tie.Need-returns
 returns c =
     let a = c .before .before .before .before .args in
     let r = a .r in
-    let judged : ℤ → ℤ → ℕ = λ x y. recordRefusal (a .n) (a .list .now) (a .count) (a .textured) (recordOf (r .kind) (r .entry) x y) in
+    let judged : ℤ → ℤ → ℕ = λ x y. recordRefusal (a .n) (patternsOf (a .n) (a .list .now)) (a .count) (a .textured) (recordOf (r .kind) (r .entry) x y) in
     let found : c .record-refusal .result ≡ judged (toZ w32 (ofZ w32 (r .off0))) (toZ w32 (ofZ w32 (r .off1))) = c .record-refusal .ensures in
     found ∙ ap₂ judged (toZ-ofZ w32 (r .off0) (search needs)) (toZ-ofZ w32 (r .off1) (search needs))
 

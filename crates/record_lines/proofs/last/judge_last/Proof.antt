@@ -6,6 +6,7 @@ use mathlib.Core.List.{List}
 use Rattle.record_text.specs.declared.fields.RecordFields.{RecordFields}
 use Rattle.record_text.specs.Lines.{Lined, read}
 use Rattle.record_field.specs.Told.{remaining}
+use Rattle.pattern.specs.Words.{patternsOf}
 use Rattle.record_front.specs.Told.{linesTold, only}
 use Rattle.record_lines.specs.Back.{rowLines}
 use Rattle.record_lines.proofs.PartLaws.{last-refused, last-more, last-none}
@@ -14,7 +15,7 @@ use Rattle.record_lines.proofs.last.judge_last.Tie as tie
 
 -- the lines of the records
 abbrev lines : (d : tie.Start) → Lined (List RecordFields)
-lines d = let a = d .args in rowLines (a .rows) (a .list .now) (a .textured) (a .bytes .now)
+lines d = let a = d .args in rowLines (a .rows) (patternsOf (a .rows .n) (a .list .now)) (a .textured) (a .bytes .now)
 
 -- they were read
 all : (c : tie.After-tried2) → let d = c .before .before .before .before .before .before .before .before .before .before .before .before .before in read tt (remaining (d .args .bytes .now) (c .tried2 .given .0 .0)) ≡ only (lines d)

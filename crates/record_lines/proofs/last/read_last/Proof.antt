@@ -5,6 +5,7 @@ use mathlib.Core.Path.{sym, _∙_, ap}
 use mathlib.Core.List.{List}
 use Rattle.record_text.specs.declared.fields.RecordFields.{RecordFields}
 use Rattle.record_text.specs.Lines.{Lined}
+use Rattle.pattern.specs.Words.{patternsOf}
 use Rattle.record_front.specs.Told.{linesTold}
 use Rattle.record_lines.specs.Stored.{Slices, putRecords}
 use Rattle.record_lines.specs.Back.{rowLines}
@@ -14,7 +15,7 @@ use Rattle.record_lines.proofs.last.read_last.Tie as tie
 
 -- the lines of the records, and the lent slices
 abbrev lines : (d : tie.Start) → Lined (List RecordFields)
-lines d = let a = d .args in rowLines (a .rows) (a .list .now) (a .textured) (a .bytes .now)
+lines d = let a = d .args in rowLines (a .rows) (patternsOf (a .rows .n) (a .list .now)) (a .textured) (a .bytes .now)
 
 abbrev slices : (d : tie.Start) → Slices
 slices d = let a = d .args in (a .kinds .now, (a .entries .now, (a .offs0 .now, a .offs1 .now)))

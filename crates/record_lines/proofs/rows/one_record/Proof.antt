@@ -10,13 +10,14 @@ use Rattle.record_text.specs.Line.{recordLine}
 use Rattle.record_text.specs.Told.{recordTold}
 use Rattle.record_text.specs.Lines.{refusedAt, read}
 use Rattle.record_text.proofs.LinesLaws.{line-bad, line-refused, line-read}
+use Rattle.pattern.specs.Words.{patternsOf}
 use Rattle.record_file.specs.Text.{meant}
 use Rattle.record_lines.proofs.rows.one_record.Statement.{statement}
 use Rattle.record_lines.proofs.rows.one_record.Tie as tie
 
 -- what a record's numbers mean
 abbrev means : (d : tie.Start) → RecordFields → ℕ
-means d r = let a = d .args in recordRefusal (a .rows .n) (a .list .now) (a .rows .count) (a .textured) (meant r)
+means d r = let a = d .args in recordRefusal (a .rows .n) (patternsOf (a .rows .n) (a .list .now)) (a .rows .count) (a .textured) (meant r)
 
 -- the record that was found
 it : (c : tie.After-a) → let x = c .before .before .before .before .before .args in let v = c .a .given .0 in recordLine (drop (x .from .at) (x .bytes .now)) ≡ found (v .0) (drop (v .1 .0 .at) (x .bytes .now))

@@ -7,6 +7,7 @@ use lib.ListN.{length, drop, length-set}
 use Rattle.record_text.specs.Line.{recordLine}
 use Rattle.record_field.specs.Told.{remaining}
 use Rattle.record_file.specs.Reading.{recordMeaningBy, unchanged}
+use Rattle.pattern.specs.Words.{patternsOf}
 use Rattle.record_front.proofs.ReadLaws.{Going, going-start, going-more, going-refused, going-end, loop-refused, loop-read}
 use Rattle.record_lines.specs.Stored.{Slices, oneTold, putRecords}
 use Rattle.record_lines.specs.Back.{rowLines}
@@ -16,7 +17,7 @@ use Rattle.record_lines.proofs.rows.read_records.Tie as tie
 
 abbrev Inv-loop : tie.InvT-loop
 Inv-loop bytes list rows textured kinds₀ entries₀ offs0₀ offs1₀ next₀ i₀ kinds entries offs0 offs1 next i =
-    (Going recordLine (recordMeaningBy (rows .n) list (rows .count) textured) unchanged (rows .many) (rows .first) tt (remaining bytes next₀) i tt (remaining bytes next)
+    (Going recordLine (recordMeaningBy (rows .n) (patternsOf (rows .n) list) (rows .count) textured) unchanged (rows .many) (rows .first) tt (remaining bytes next₀) i tt (remaining bytes next)
     (λ l. _≡_ {A = Slices} (kinds, (entries, (offs0, offs1))) (putRecords (kinds₀, (entries₀, (offs0₀, offs1₀))) l)))
     × (i ≤ rows .many) × (length kinds ≡ length kinds₀) × (length entries ≡ length entries₀) × (length offs0 ≡ length offs0₀) × (length offs1 ≡ length offs1₀)
 
@@ -60,8 +61,8 @@ returns : tie.Need-returns Inv-loop μ-loop
 returns c =
     let d = c .before .before .before .before .before .before .before .before .before .before .before .before in
     let l = c .before .before .before .before .before .before .before .loop in
-    loop-refused (putRecords (d .args .kinds .now, (d .args .entries .now, (d .args .offs0 .now, d .args .offs1 .now)))) (rowLines (d .args .rows) (d .args .list .now) (d .args .textured) (d .args .bytes .now)) (l .kinds, (l .entries, (l .offs0, l .offs1)))
-    (going-refused recordLine (recordMeaningBy (d .args .rows .n) (d .args .list .now) (d .args .rows .count) (d .args .textured)) unchanged (d .args .rows .many) (d .args .rows .first) tt (drop (d .args .rows .at) (d .args .bytes .now)) (l .inv .0) (c .before .before .before .before .before .if1 .taken)
+    loop-refused (putRecords (d .args .kinds .now, (d .args .entries .now, (d .args .offs0 .now, d .args .offs1 .now)))) (rowLines (d .args .rows) (patternsOf (d .args .rows .n) (d .args .list .now)) (d .args .textured) (d .args .bytes .now)) (l .kinds, (l .entries, (l .offs0, l .offs1)))
+    (going-refused recordLine (recordMeaningBy (d .args .rows .n) (patternsOf (d .args .rows .n) (d .args .list .now)) (d .args .rows .count) (d .args .textured)) unchanged (d .args .rows .many) (d .args .rows .first) tt (drop (d .args .rows .at) (d .args .bytes .now)) (l .inv .0) (c .before .before .before .before .before .if1 .taken)
     (sym (ap (oneTold _) (c .before .one2 .given .1)) ∙ c .before .before .before .one-record .ensures))
 
 add-i : tie.Need-add-i Inv-loop μ-loop
@@ -76,7 +77,7 @@ loop-again c =
     let l = c .before .before .before .before .before .before .before .before .before .before .before .before .before .before .before .before .before .before .loop in
     let r = c .before .before .before .before .before .before .before .before .before .before .before .before .one .given .0 .0 in
     let w = c .before .before .before .before .before .before .store in (
-      going-more recordLine (recordMeaningBy (d .args .rows .n) (d .args .list .now) (d .args .rows .count) (d .args .textured)) unchanged (d .args .rows .many) (d .args .rows .first) tt (drop (d .args .rows .at) (d .args .bytes .now)) (l .inv .0) (c .before .before .before .before .before .before .before .before .before .before .before .before .before .before .before .before .if1 .taken)
+      going-more recordLine (recordMeaningBy (d .args .rows .n) (patternsOf (d .args .rows .n) (d .args .list .now)) (d .args .rows .count) (d .args .textured)) unchanged (d .args .rows .many) (d .args .rows .first) tt (drop (d .args .rows .at) (d .args .bytes .now)) (l .inv .0) (c .before .before .before .before .before .before .before .before .before .before .before .before .before .before .before .before .if1 .taken)
           (λ k. _≡_ {A = Slices} (w .last .0, (w .last .1 .0, (w .last .1 .1 .0, w .last .1 .1 .1 .0))) (putRecords (d .args .kinds .now, (d .args .entries .now, (d .args .offs0 .now, d .args .offs1 .now))) k))
           (sym (ap (oneTold _) (c .before .before .before .before .before .before .before .before .before .before .before .before .one .given .1)) ∙ c .before .before .before .before .before .before .before .before .before .before .before .before .before .before .one-record .ensures) refl
           (λ k e h. rw (w .ensures .0, w .ensures .1 .0, w .ensures .1 .1 .0, w .ensures .1 .1 .1) (slices-more k r (d .args .kinds .now, (d .args .entries .now, (d .args .offs0 .now, d .args .offs1 .now))) e h)),
@@ -103,8 +104,8 @@ returns-2 : tie.Need-returns-2 Inv-loop μ-loop
 returns-2 c =
     let d = c .before .before .before .before .before .before .before in
     let l = c .before .before .loop in
-    loop-read (putRecords (d .args .kinds .now, (d .args .entries .now, (d .args .offs0 .now, d .args .offs1 .now)))) (rowLines (d .args .rows) (d .args .list .now) (d .args .textured) (d .args .bytes .now)) (l .kinds, (l .entries, (l .offs0, l .offs1)))
-    (going-end recordLine (recordMeaningBy (d .args .rows .n) (d .args .list .now) (d .args .rows .count) (d .args .textured)) unchanged (d .args .rows .many) (d .args .rows .first) tt (drop (d .args .rows .at) (d .args .bytes .now)) (l .inv .0) (c .if1 .left))
+    loop-read (putRecords (d .args .kinds .now, (d .args .entries .now, (d .args .offs0 .now, d .args .offs1 .now)))) (rowLines (d .args .rows) (patternsOf (d .args .rows .n) (d .args .list .now)) (d .args .textured) (d .args .bytes .now)) (l .kinds, (l .entries, (l .offs0, l .offs1)))
+    (going-end recordLine (recordMeaningBy (d .args .rows .n) (patternsOf (d .args .rows .n) (d .args .list .now)) (d .args .rows .count) (d .args .textured)) unchanged (d .args .rows .many) (d .args .rows .first) tt (drop (d .args .rows .at) (d .args .bytes .now)) (l .inv .0) (c .if1 .left))
     (l .inv .0 .kept)
 
 pub read-records-spec : {M : Type 1} → statement M

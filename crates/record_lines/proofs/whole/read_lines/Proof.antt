@@ -1,27 +1,25 @@
 -- `read_lines` meets its contract: the records lent, the lines before the records, and the rest.
 use borrow.Author.Needs.{needs}
-use mathlib.Core.Path.{_≡_, sym, _∙_, ap, subst}
+use mathlib.Core.Path.{_≡_, sym, _∙_, ap}
 use Prim.Native.Nat.{ℕ, _≤_}
-use native.Mathlib.Nat.{le-trans}
-use native.Mathlib.Omega.{arith}
-use lib.ListN.{length, drop}
+use lib.ListN.{length}
 use Rattle.sheet_checks.specs.Checks.{recordsLent}
-use Rattle.pattern.specs.Answer.{textured}
 use Rattle.record_text.specs.Lines.{Lined}
-use Rattle.record_file.specs.Reading.{File, Aids, aidsOf, blocksIn, fileLines, restLines}
+use Rattle.record_file.specs.Reading.{File, Aids, aidsOf, blocksIn, fileLines}
 use Rattle.record_file.proofs.FileLaws.{size-small}
 use Rattle.record_file.proofs.LineBounds.{blocks-few}
-use Rattle.record_front.specs.Told.{linesTold, only, frontSize}
-use Rattle.record_lines.specs.declared.rows.Rows.{Rows}
-use Rattle.record_lines.specs.Stored.{Slices, putRecords, putOr}
-use Rattle.record_lines.specs.Back.{readLines, linesBack, recordsBack, leaving, lastRowLines}
+use Rattle.record_front.specs.Told.{frontSize}
+use Rattle.record_lines.specs.Stored.{Slices}
+use Rattle.record_lines.specs.Back.{readLines, linesBack, recordsBack, leaving}
 use Rattle.record_lines.proofs.BackLaws.{lines-short, lines-passed, file-no, FrontRead, front-is, back-is, kept-is, all-refused}
 use Rattle.record_lines.proofs.whole.read_lines.Statement.{statement}
 use Rattle.record_lines.proofs.whole.read_lines.Tie as tie
 
 -- what the file is read with, what is lent, and how many records that is
 abbrev aids : (d : tie.Start) → Aids
-aids d = aidsOf (d .args .list .now) (d .args .count) (d .args .texture .now)
+aids d =
+    let a = d .args in
+    aidsOf (a .list4 .now) (a .count4) (a .list8 .now) (a .count8) (a .list16 .now) (a .count16) (a .texture .now)
 
 abbrev slices : (d : tie.Start) → Slices
 slices d = (d .args .kinds .now, (d .args .entries .now, (d .args .offs0 .now, d .args .offs1 .now)))
@@ -29,36 +27,28 @@ slices d = (d .args .kinds .now, (d .args .entries .now, (d .args .offs0 .now, d
 abbrev records : (d : tie.Start) → ℕ
 records d = recordsLent (length (d .args .kinds .now)) (length (d .args .entries .now)) (length (d .args .offs0 .now)) (length (d .args .offs1 .now))
 
+abbrev start : tie.Else1 → tie.Start
+start c = c .before .before .before .before .before .before .before .before .before
+
 -- enough records are lent
-enough : (c : tie.Else1) → 1024 ≤ records (c .before .before .before .before .before .before .before)
+enough : (c : tie.Else1) → 1024 ≤ records (start c)
 enough c = rw (← c .before .records-lent .ensures) (c .if1 .left)
 
-passed : (c : tie.Else1) → let d = c .before .before .before .before .before .before .before in readLines (aids d) (records d) (d .args .bytes .now) ≡ fileLines (aids d) (d .args .bytes .now)
-passed c = let d = c .before .before .before .before .before .before .before in lines-passed (aids d) (d .args .bytes .now) (enough c)
+passed : (c : tie.Else1) → let d = start c in readLines (aids d) (records d) (d .args .bytes .now) ≡ fileLines (aids d) (d .args .bytes .now)
+passed c = lines-passed (aids (start c)) (start c .args .bytes .now) (enough c)
 
 -- the lines before the records, and how far their numbers go
-front : (c : tie.Else2) → let d = c .before .before .before .before .before .before .before .before .before .before in FrontRead (aids d) (d .args .bytes .now) (c .before .before .read-front .result)
-front c = let d = c .before .before .before .before .before .before .before .before .before .before in let r = c .before .before .read-front in front-is (aids d) (d .args .bytes .now) (r .result) (r .ensures) (c .if2 .left)
+front : (c : tie.Else2) → let d = start (c .before .before .before) in FrontRead (aids d) (d .args .bytes .now) (c .before .before .read-front .result)
+front c =
+    let d = start (c .before .before .before) in
+    let r = c .before .before .read-front in
+    front-is (aids d) (d .args .bytes .now) (r .result) (r .ensures) (c .if2 .left)
 
 sizes : (c : tie.Else2) → let r = c .before .before .read-front .result in (r .values ≤ 256) × (blocksIn (frontSize r) ≤ 1024)
-sizes c = let t = length (c .before .before .before .before .before .before .before .before .before .before .args .texture .now) in let z = frontSize (c .before .before .read-front .result) in (size-small t z (front c .size) .values, blocks-few t z (front c .size))
-
--- the rest of the lines
-rest :
-    (c : tie.After-read-last)
-    → let d = c .before .before .before .before .before .before .before .before .before .before .before .before .before .before .before .before in
-    let r = c .before .before .before .before .before .before .before .before .read-front .result in
-    let w = c .read-last in
-    (linesTold (d .args .bytes .now) (w .result) ≡ only (restLines (aids d) (frontSize r) (drop (r .at) (d .args .bytes .now))))
-    × (_≡_ {A = Slices} (w .last .1 .1 .1 .1 .0, (w .last .1 .1 .1 .1 .1 .0, (w .last .1 .1 .1 .1 .1 .1 .0, w .last .1 .1 .1 .1 .1 .1 .1 .0))) (putOr (putRecords (slices d)) (restLines (aids d) (frontSize r) (drop (r .at) (d .args .bytes .now))) (slices d)))
-rest c =
-    let d = c .before .before .before .before .before .before .before .before .before .before .before .before .before .before .before .before in
-    let w = c .read-last in
-    subst
-    (λ (R : Rows).
-    (linesTold (d .args .bytes .now) (w .result) ≡ only (lastRowLines R (d .args .list .now) (textured (d .args .texture .now)) (d .args .bytes .now)))
-    × (_≡_ {A = Slices} (w .last .1 .1 .1 .1 .0, (w .last .1 .1 .1 .1 .1 .0, (w .last .1 .1 .1 .1 .1 .1 .0, w .last .1 .1 .1 .1 .1 .1 .1 .0))) (putOr (putRecords (slices d)) (lastRowLines R (d .args .list .now) (textured (d .args .texture .now)) (d .args .bytes .now)) (slices d))))
-    (c .before .before .before .before .before .rows-of .ensures) (w .ensures)
+sizes c =
+    let t = length (start (c .before .before .before) .args .texture .now) in
+    let z = frontSize (c .before .before .read-front .result) in
+    (size-small t z (front c .size) .values, blocks-few t z (front c .size))
 
 records-lent-requires : tie.Need-records-lent-requires
 records-lent-requires c κs = search needs
@@ -67,7 +57,11 @@ refused-lines-requires : tie.Need-refused-lines-requires
 refused-lines-requires c κs = search needs
 
 returns : tie.Need-returns
-returns c = let d = c .before .before .before .before .before .before .before .before in all-refused (slices d) (lines-short (aids d) (d .args .bytes .now) (rw (← c .before .before .records-lent .ensures) (c .before .if1 .taken))) (c .refused-lines .ensures)
+returns c =
+    let d : tie.Start = search needs in
+    all-refused (slices d)
+    (lines-short (aids d) (d .args .bytes .now) (rw (← c .before .before .records-lent .ensures) (c .before .if1 .taken)))
+    (c .refused-lines .ensures)
 
 read-front-requires : tie.Need-read-front-requires
 read-front-requires c κs = search needs
@@ -77,17 +71,15 @@ refused-lines-requires-2 c κs = search needs
 
 returns-2 : tie.Need-returns-2
 returns-2 c =
-    let d = c .before .before .before .before .before .before .before .before .before .before .before in
     let r = c .before .before .before .read-front in
-    all-refused (slices d) (passed (c .before .before .before .before) ∙ file-no (aids d) (d .args .bytes .now) (r .result) (r .ensures) (c .before .if2 .taken)) (c .refused-lines2 .ensures)
+    let e = c .before .before .before .before in
+    let d = start e in
+    all-refused (slices d)
+    (passed e ∙ file-no (aids d) (d .args .bytes .now) (r .result) (r .ensures) (c .before .if2 .taken))
+    (c .refused-lines2 .ensures)
 
-rows-of-requires : tie.Need-rows-of-requires
-rows-of-requires c κs = sizes c
-
-read-last-requires : tie.Need-read-last-requires
-read-last-requires c κs =
-    let h = sizes (c .before .before .before .before .before) in
-    rw (c .before .before .before .before .rows-of .ensures) (le-trans (h .1) (enough (c .before .before .before .before .before .before .before .before)), h .1, omega (arith, h .0))
+read-rest-requires : tie.Need-read-rest-requires
+read-rest-requires c κs = let e = c .before .before .before .before in (sizes e, enough (e .before .before .before))
 
 told-lines-requires : tie.Need-told-lines-requires
 told-lines-requires c κs = search needs
@@ -106,13 +98,14 @@ same-length-4 c = search needs
 
 returns-3 : tie.Need-returns-3
 returns-3 c =
-    let f = c .before .before .before .before .before .before .before .before .before .before .before .before .before in
-    let d = c .before .before .before .before .before .before .before .before .before .before .before .before .before .before .before .before .before .before .before .before .before .before .before in
     let w = c .before .before .before .before .before .before .before in
+    let f = w .before .before .before .before .before in
+    let d = start (f .before .before .before) in
     let r = f .before .before .read-front .result in
     let e = sym (passed (f .before .before .before)) in (
-      c .told-lines .ensures ∙ back-is (aids d) (d .args .bytes .now) r (front f) (w .read-last .result) (rest w .0) ∙ ap linesBack e,
-      rest w .1 ∙ kept-is (aids d) (d .args .bytes .now) r (front f) (slices d) ∙ ap (λ (x : Lined File). leaving x (λ F. recordsBack F (slices d)) (slices d)) e,
+      c .told-lines .ensures ∙ back-is (aids d) (d .args .bytes .now) r (front f) (w .read-rest .result) (w .read-rest .ensures .0) ∙ ap linesBack e,
+      w .read-rest .ensures .1 ∙ kept-is (aids d) (d .args .bytes .now) r (front f) (slices d)
+          ∙ ap (λ (x : Lined File). leaving x (λ F. recordsBack F (slices d)) (slices d)) e,
     )
 
 pub read-lines-spec : {M : Type 1} → statement M
@@ -125,8 +118,7 @@ read-lines-spec =
     read-front-requires
     refused-lines-requires-2
     returns-2
-    rows-of-requires
-    read-last-requires
+    read-rest-requires
     told-lines-requires
     same-length
     same-length-2

@@ -5,6 +5,7 @@ use Prim.Native.Nat.{ℕ, _*_}
 use mathlib.Core.List.{List, _++_}
 use lib.ListN.{take, drop}
 use lib.Seq.{length-take-le}
+use Rattle.pattern.specs.Words.{patternsOf}
 use Rattle.sheet.specs.Place.{materialOf, placedInTurn}
 use Rattle.record_file.specs.Text.{meant, recordAt}
 use Rattle.record_read.specs.Back.{sheetOf, tableOf}
@@ -53,7 +54,7 @@ returns c =
     let z = a .lines in
     ap (λ (x : List ℕ). x ++ drop (z .width * z .height) (a .samples .now))
     (c .before .before .place-all .ensures
-    ∙ ap (placedInTurn (sheetOf (a .lines)) (materialOf (a .list .now) (a .count) (tableOf (a .lines)) (a .texture .now)) (λ i. meant (recordAt (a .kinds .now) (a .entries .now) (a .offs0 .now) (a .offs1 .now) i)) (take (z .width * z .height) (a .samples .now))) (c .before .before .before .blocks2 .ensures))
+    ∙ ap (placedInTurn (sheetOf (a .lines)) (materialOf (patternsOf (a .lines .n) (a .list .now)) (a .count) (tableOf (a .lines)) (a .texture .now)) (λ i. meant (recordAt (a .kinds .now) (a .entries .now) (a .offs0 .now) (a .offs1 .now) i)) (take (z .width * z .height) (a .samples .now))) (c .before .before .before .blocks2 .ensures))
 
 pub fill-spec : {M : Type 1} → statement M
 fill-spec =

@@ -5,6 +5,8 @@ use Prim.Native.Nat.{ℕ, _-_, _≤_}
 use native.Mathlib.Omega.{arith}
 use lib.ListN.{length}
 use Rattle.choice.specs.Record.{Record}
+use Rattle.pattern.specs.Words.{patternsOf}
+use Rattle.sheet.specs.declared.Sheet.{Sheet}
 use Rattle.sheet.specs.State.{after}
 use Rattle.sheet.specs.Place.{Material, materialOf, placedInTurn}
 use Rattle.sheet.proofs.PlaceLaws.{length-placed}
@@ -17,7 +19,7 @@ use Rattle.record_read.proofs.reading.place_all.Tie as tie
 abbrev Inv-loop : tie.InvT-loop
 Inv-loop samples₀ list count table texture m kinds entries offs0 offs1 state₀ i₀ samples state i =
     (state ≡ after i state₀)
-    × (samples ≡ placedInTurn state₀ (materialOf list count table texture) (λ k. meant (recordAt kinds entries offs0 offs1 k)) samples₀ i)
+    × (samples ≡ placedInTurn state₀ (materialOf (patternsOf (state₀ .n) list) count table texture) (λ k. meant (recordAt kinds entries offs0 offs1 k)) samples₀ i)
     × (i ≤ m) × (length samples ≡ length samples₀)
 
 abbrev μ-loop : tie.MeasureT-loop
@@ -25,7 +27,7 @@ abbrev μ-loop : tie.MeasureT-loop
 
 -- what the records are placed with, and which they are
 abbrev material : (d : tie.Start Inv-loop μ-loop) → Material
-material d = materialOf (d .args .list .now) (d .args .count) (d .args .table .now) (d .args .texture .now)
+material d = materialOf (patternsOf (d .args .sheet .n) (d .args .list .now)) (d .args .count) (d .args .table .now) (d .args .texture .now)
 
 abbrev records : (d : tie.Start Inv-loop μ-loop) → ℕ → Record
 records d k = meant (recordAt (d .args .kinds .now) (d .args .entries .now) (d .args .offs0 .now) (d .args .offs1 .now) k)
@@ -55,11 +57,12 @@ loop-again c =
     let d = c .before .before .before .before .before .before .before .before .before .before .before .before .before in
     let l = c .before .before .before .before .before .before .loop in
     let p = c .before .before .place-one in
-    let r = c .before .before .before .before .record-at in (
+    let r = c .before .before .before .before .record-at in
+    let placed = rw (ap (λ (u : Sheet). patternsOf (u .n) (d .args .list .now)) (l .inv .0)) at (p .ensures .1) in (
       after-more (d .args .sheet) (l .i) (l .inv .0) (p .ensures .0),
-      in-turn-more (d .args .sheet) (material d) (records d) (d .args .samples .now) (l .i) (l .inv .0) (l .inv .1) (ap meant (r .ensures)) (p .ensures .1),
+      in-turn-more (d .args .sheet) (material d) (records d) (d .args .samples .now) (l .i) (l .inv .0) (l .inv .1) (ap meant (r .ensures)) placed,
       omega (arith, c .before .before .before .before .before .loop-test .taken),
-      ap length (p .ensures .1) ∙ length-placed (l .state) (material d) (l .samples) (meant (r .result)) ∙ l .inv .3,
+      ap length placed ∙ length-placed (l .state) (material d) (l .samples) (meant (r .result)) ∙ l .inv .3,
     )
 
 same-length : tie.Need-same-length Inv-loop μ-loop

@@ -7,6 +7,7 @@ use mir.ValLaws.{toZ-ofZ}
 use Rattle.choice.specs.Record.{Record}
 use Rattle.record_checks.specs.Meaning.{recordOf}
 use Rattle.sheet.specs.Place.{Material, materialOf, placeAnswer, placeAfter}
+use Rattle.pattern.specs.Words.{patternsOf}
 use Rattle.sheet.specs.Told.{placeTold}
 use Rattle.sheet.proofs.PlaceLaws.{place-accepted}
 use Rattle.record_checks.proofs.RefusalLaws.{given-same, given-never}
@@ -16,7 +17,7 @@ use Rattle.record_read.proofs.reading.place_one.Tie as tie
 
 -- what it is placed with
 abbrev material : (d : tie.Start) → Material
-material d = materialOf (d .args .list .now) (d .args .count) (d .args .table .now) (d .args .texture .now)
+material d = materialOf (patternsOf (d .args .state .n) (d .args .list .now)) (d .args .count) (d .args .table .now) (d .args .texture .now)
 
 -- the offsets stand for themselves
 itself : (d : tie.Start) → _≡_ {A = Record} (recordOf (d .args .r .kind) (d .args .r .entry) (toZ w32 (ofZ w32 (d .args .r .off0))) (toZ w32 (ofZ w32 (d .args .r .off1)))) (meant (d .args .r))

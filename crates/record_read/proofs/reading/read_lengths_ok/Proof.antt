@@ -1,5 +1,4 @@
 -- `read_lengths_ok` meets its contract, test by test.
-use borrow.Author.Needs.{needs}
 use borrow.Author.Tests.{le-leb, lt-leb}
 use Rattle.record_file.specs.Reading.{readLengthsOk}
 use Rattle.record_read.proofs.reading.read_lengths_ok.Statement.{statement}
@@ -13,12 +12,9 @@ returns-2 : tie.Need-returns-2
 unfolding readLengthsOk
 returns-2 c = rw (le-leb 16384 _ (c .before .if1 .left), lt-leb 1024 _ (c .if2 .taken))
 
-count-ok-requires : tie.Need-count-ok-requires
-count-ok-requires c κs = search needs
-
 returns-3 : tie.Need-returns-3
 unfolding readLengthsOk
-returns-3 c = rw (le-leb 16384 _ (c .before .before .if1 .left), le-leb 1024 _ (c .before .if2 .left)) (c .count-ok .ensures)
+returns-3 c = rw (le-leb 16384 _ (c .before .if1 .left), le-leb 1024 _ (c .if2 .left))
 
 pub read-lengths-ok-spec : {M : Type 1} → statement M
-read-lengths-ok-spec = tie.close (tie.spec returns returns-2 count-ok-requires returns-3)
+read-lengths-ok-spec = tie.close (tie.spec returns returns-2 returns-3)

@@ -5,6 +5,7 @@ use mathlib.Core.Path.{_≡_, _∙_, ap}
 use mathlib.Core.Logic.{⊎-elim}
 use Rattle.record_text.specs.declared.fields.RecordFields.{RecordFields}
 use native.Mathlib.Omega.{arith}
+use Rattle.pattern.specs.Words.{patternsOf}
 use Rattle.record_file.specs.Text.{recordAt}
 use Rattle.record_file.specs.Writing.{firstTo, writtenRefusal}
 use Rattle.record_file.proofs.RefusalLaws.{first-start, first-kept, first-next}
@@ -13,7 +14,7 @@ use Rattle.record_write.proofs.checks.records_refusal.Tie as tie
 
 abbrev Inv-loop : tie.InvT-loop
 Inv-loop n list count m kinds entries offs0 offs1 refusal₀ i₀ refusal i =
-    (refusal ≡ firstTo (λ k. writtenRefusal n list count (recordAt kinds entries offs0 offs1 k)) i) × (i ≤ m)
+    (refusal ≡ firstTo (λ k. writtenRefusal n (patternsOf n list) count (recordAt kinds entries offs0 offs1 k)) i) × (i ≤ m)
 
 abbrev μ-loop : tie.MeasureT-loop
 μ-loop n list count m kinds entries offs0 offs1 refusal₀ i₀ refusal i = m - i
@@ -36,11 +37,11 @@ loop-less c = search needs
 loop-again : tie.Need-loop-again Inv-loop μ-loop
 loop-again c =
     let a = c .before .before .before .before .before .before .args in
-    let f : ℕ → ℕ = λ k. writtenRefusal (a .n) (a .list .now) (a .count) (recordAt (a .kinds .now) (a .entries .now) (a .offs0 .now) (a .offs1 .now) k) in
+    let f : ℕ → ℕ = λ k. writtenRefusal (a .n) (patternsOf (a .n) (a .list .now)) (a .count) (recordAt (a .kinds .now) (a .entries .now) (a .offs0 .now) (a .offs1 .now) k) in
     let l = c .before .before .loop in (
       ⊎-elim
           (λ w. rw (w .3) (first-next f (l .i) (l .refusal) (w .2 .result) (l .inv .0) (w .0 .taken)
-          (w .2 .ensures ∙ ap (λ (r : RecordFields). writtenRefusal (a .n) (a .list .now) (a .count) r) (w .1 .ensures))))
+          (w .2 .ensures ∙ ap (λ (r : RecordFields). writtenRefusal (a .n) (patternsOf (a .n) (a .list .now)) (a .count) r) (w .1 .ensures))))
           (λ w. rw (w .1) (first-kept f (l .i) (l .refusal) (l .inv .0) (w .0 .left)))
           (c .if1 .came),
       omega arith,
@@ -51,7 +52,7 @@ returns c =
     let a = c .before .before .before .before .before .args in
     let l = c .before .loop in
     let e : l .i ≡ a .m = omega (arith, l .inv .1) in
-    l .inv .0 ∙ ap (firstTo (λ k. writtenRefusal (a .n) (a .list .now) (a .count) (recordAt (a .kinds .now) (a .entries .now) (a .offs0 .now) (a .offs1 .now) k))) e
+    l .inv .0 ∙ ap (firstTo (λ k. writtenRefusal (a .n) (patternsOf (a .n) (a .list .now)) (a .count) (recordAt (a .kinds .now) (a .entries .now) (a .offs0 .now) (a .offs1 .now) k))) e
 
 pub records-refusal-spec : {M : Type 1} → statement M
 records-refusal-spec =

@@ -1,22 +1,21 @@
 -- `put_read` meets its contract: what reading answered is a refusal or a sheet, and is printed.
 use borrow.Author.Needs.{needs}
 use mathlib.Core.Path.{sym, _∙_, ap}
-use mathlib.Core.List.{[]}
 use native.Mathlib.Omega.{arith}
 use lib.ListN.{length, replicate}
 use Rattle.record_text.specs.Lines.{Lined}
 use Rattle.record_print.proofs.WriteSteps.{written-as}
 use Rattle.sheet_print.proofs.CallLaws.{SheetFits, refusal-printed, sheet-printed}
-use Rattle.record_file.specs.Reading.{File, Aids, aidsOf}
+use Rattle.record_file.specs.Reading.{File, Aids}
 use Rattle.record_file.proofs.LineBounds.{read-below}
-use Rattle.sheet_text.specs.Showing.{textBy, readWith}
+use Rattle.sheet_text.specs.Showing.{aidsAlone, textBy, readWith}
 use Rattle.sheet_text.proofs.ShowLaws.{back-refused, back-line, SheetBack, back-read}
 use Rattle.sheet_text.proofs.showing.put_read.Statement.{statement}
 use Rattle.sheet_text.proofs.showing.put_read.Tie as tie
 
 -- what the file is read with, and what reading it gives
 abbrev aids : (d : tie.Start) → Aids
-aids d = aidsOf (d .args .list .now) (d .args .count) []
+aids d = aidsAlone (d .args .n) (d .args .list .now) (d .args .count)
 
 abbrev reading : (d : tie.Start) → Lined File
 reading d = readWith (aids d) (d .args .bytes .now)
@@ -26,7 +25,7 @@ sheet :
     (c : tie.Else1)
     → let r = c .before .before .before in
     let d = r .before .before .before .before .before in
-    SheetBack (aids d) (reading d) (r .read-samples .result) (r .read-samples .last .1 .1 .1 .0)
+    SheetBack (aids d) (reading d) (r .read-samples .result) (r .read-samples .last .1 .1 .1 .1 .0)
 sheet c =
     let r = c .before .before .before in
     let d = r .before .before .before .before .before in
@@ -73,7 +72,7 @@ returns-2 c =
     let d = r .before .before .before .before .before in
     let b = sheet e in
     let s = r .read-samples .result .sheet in
-    let held = r .read-samples .last .1 .1 .1 .0 in
+    let held = r .read-samples .last .1 .1 .1 .1 .0 in
     let fits : SheetFits (s .width) (s .height) (length held) (length (d .args .out .now)) =
     record { width = b .width; height = b .height; held = b .held; space = omega (arith, b .few, d .pre) } in
     written-as (p .put-sheet .ensures) (sheet-printed (s .width) (s .height) held (length (d .args .out .now)) fits ∙ b .same)

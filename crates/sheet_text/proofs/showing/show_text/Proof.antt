@@ -1,6 +1,11 @@
 -- `show_text` meets its contract: the space, the size, the list, and the text.
 use borrow.Author.Needs.{needs}
+use Prim.Native.Nat.{_*_, _≤_}
+use mathlib.Core.Path.{_≡_, sym}
+use lib.ListN.{length}
+use lib.Seq.{length-take-le}
 use native.Mathlib.Omega.{arith}
+use Rattle.wedgelet.specs.Answer.{mostWords}
 use Rattle.record_print.proofs.WriteSteps.{written-as}
 use Rattle.sheet_text.proofs.ShowLaws.{show-short, show-given, shown-as}
 use Rattle.sheet_text.proofs.showing.show_text.Statement.{statement}
@@ -14,8 +19,8 @@ returns c =
 size-in-requires : tie.Need-size-in-requires
 size-in-requires c κs = search needs
 
-cast-build-list : tie.Need-cast-build-list
-cast-build-list c = search needs
+cast-n : tie.Need-cast-n
+cast-n c = search needs
 
 slice-aggregate-build-list : tie.Need-slice-aggregate-build-list
 slice-aggregate-build-list c = search needs
@@ -23,11 +28,23 @@ slice-aggregate-build-list c = search needs
 build-list-requires : tie.Need-build-list-requires
 build-list-requires c κs = search needs
 
+words-of-requires : tie.Need-words-of-requires
+words-of-requires c κs = tt
+
+-- the words of the list that was built
+words : (c : tie.After-words-of) → c .words-of .result * c .before .before .build-list .result ≤ length (c .before .before .build-list .last .1 .0)
+words c = rw (c .words-of .ensures) (c .before .before .build-list .ensures .inside)
+
+mul-words : tie.Need-mul-words
+mul-words c =
+    let l : length (c .before .before .build-list .last .1 .0) ≡ mostWords = search needs in
+    omega (arith, words c)
+
 array-share-prefix-list : tie.Need-array-share-prefix-list
-array-share-prefix-list c = search needs
+array-share-prefix-list c = words c
 
 slice-aggregate-put-read : tie.Need-slice-aggregate-put-read
-slice-aggregate-put-read c = search needs
+slice-aggregate-put-read c = sym (length-take-le _ _ (words (c .before)))
 
 put-read-requires : tie.Need-put-read-requires
 put-read-requires c κs = search needs
@@ -37,11 +54,13 @@ same-length c = search needs
 
 returns-2 : tie.Need-returns-2
 returns-2 c =
-    let r = c .before .before .put-read in
-    let s = c .before .before .before .before .before .before .before .before .before .before .before .before in
-    let b = c .before .before .before .before .before in
+    let r = c .before .before in
+    let w = r .before .before .before in
+    let b = w .before .before in
+    let s = b .before .before .before .before .before .before in
     show-given (s .args .bytes .now) (s .args .out .now) (omega arith)
-    (written-as (r .ensures) (shown-as (s .args .bytes .now) (b .before .before .before .size-in .ensures) (b .before .build-list .ensures .aids)))
+    (written-as (r .put-read .ensures)
+    (shown-as (s .args .bytes .now) (b .before .before .size-in .ensures) (rw (← (w .words-of .ensures)) at (b .build-list .ensures .aids))))
 
 pub show-text-spec : {M : Type 1} → statement M
 show-text-spec =
@@ -49,9 +68,11 @@ show-text-spec =
     (tie.spec
     returns
     size-in-requires
-    cast-build-list
+    cast-n
     slice-aggregate-build-list
     build-list-requires
+    words-of-requires
+    mul-words
     array-share-prefix-list
     slice-aggregate-put-read
     put-read-requires
