@@ -1,22 +1,24 @@
--- The list that C's calls build: its count, its words, and the refusals, which do not depend on it. Assumes nothing.
-use Prim.Native.Nat.{ℕ, zero, suc, _*_, _^_, _≤_, _<_}
-use mathlib.Core.Bool.{Bool, true, false, _&&_}
-use mathlib.Core.List.{List, [], _∷_}
+-- The list that C's calls build: its count, its patterns, and the refusals, which do not depend on it. Assumes nothing.
+use Prim.Native.Nat.{ℕ, zero, suc, _*_, _/_, _^_, _≤_, _<_}
+use mathlib.Core.Bool.{Bool, true, false, cond, _&&_}
+use mathlib.Core.List.{List}
 use mathlib.Core.Path.{_≡_, refl, sym, ap, subst, _∙_}
 use native.Mathlib.Omega.{arith}
 use borrow.Author.Tests.{le-leb, lt-ltb, ltb-true}
 use lib.Dec.{eqb, leb, ltb}
-use lib.ListN.{length, getD, replicate, length-take, length-replicate}
+use lib.ListN.{length, getD, replicate, length-replicate}
 use lib.Pow.{pow-pos}
 use Rattle.arith.specs.Checks.{unless, refused, given, answer}
 use Rattle.arith.proofs.CheckLaws.{answer-given, answer-refused, given-means, refused-means}
 use Rattle.depth_table.specs.Table.{tableOk}
 use Rattle.pattern.specs.Size.{sizeOk, wordOk}
+use Rattle.pattern.specs.Words.{greatestWords, fourWords, fourAt, wholePatterns, patternAt, patternsOf}
 use Rattle.pattern.specs.Answer.{countOk, textureOk}
 use Rattle.pattern.proofs.SizeLaws.{size-bounds}
+use Rattle.pattern.proofs.WordLaws.{length-patterns, patterns-at}
 use Rattle.wedgelet.specs.Wedgelet.{wedgeletList}
-use Rattle.wedgelet.specs.Answer.{needed, listRefusal, listAnswer, asBuilt}
-use Rattle.wedgelet.proofs.AnswerLaws.{words-enough, built-is, built-at, wedgelets-build}
+use Rattle.wedgelet.specs.Answer.{neededWords, mostWords, mostPatterns, listRefusal, listAnswer, listAfter, asBuilt}
+use Rattle.wedgelet.proofs.AnswerLaws.{patterns-enough, words-enough, built-is, built-at, list-within, wedgelets-build}
 use Rattle.wedgelet.proofs.Growth.{list-length}
 use Rattle.wedgelet.proofs.WedgeletLaws.{list-some, entry-lt}
 use Rattle.choice_checks.specs.Case.{Case, caseOf}
@@ -36,32 +38,34 @@ module _ (n : ℕ) (size : sizeOk n ≡ true) where
   abbrev count : ℕ
   count = length (wedgeletList n)
 
-  -- 756 words are enough
-  none-refused : listRefusal n (length {A = ℕ} (replicate 756 0)) ≡ 0
+  -- the words are enough
+  none-refused : listRefusal n (length {A = ℕ} (replicate mostWords 0)) ≡ 0
   unfolding listRefusal
-  none-refused = rw (size, length-replicate {A = ℕ} 756 0, le-leb (needed n) 756 (words-enough n size))
+  none-refused = rw (size, length-replicate {A = ℕ} mostWords 0, le-leb (neededWords n) mostWords (words-enough n size))
 
   -- it is the list as built
   pub list-as-built : asBuilt n (builtList n) count ≡ true
   unfolding listAnswer
   list-as-built =
-      wedgelets-build n (replicate 756 0) count
-      (sym (answer-given (listRefusal n (length {A = ℕ} (replicate 756 0))) count none-refused))
+      wedgelets-build n (replicate mostWords 0) count
+      (sym (answer-given (listRefusal n (length {A = ℕ} (replicate mostWords 0))) count none-refused))
 
-  pub built-few : count ≤ 756
-  built-few = omega (arith, list-length n, words-enough n size)
+  -- it has no more patterns than the longest list
+  few : count ≤ mostPatterns
+  few = omega (arith, list-length n, patterns-enough n (size-bounds n size .1))
 
   -- its count is allowed, and not 0
   count-allowed : countOk (length (builtList n)) count ≡ true
   count-allowed =
-      let b = built-is n (builtList n) count list-as-built in
-      let inside : count ≤ length (builtList n) = omega (arith, ap length (b .words), length-take count (builtList n)) in
-      rw (le-leb count (length (builtList n)) inside, le-leb count 9999 (omega (arith, built-few)))
+      rw (
+        le-leb count (length (builtList n)) (list-within n (replicate mostWords 0) none-refused),
+        le-leb count 9999 (omega (arith, few)),
+      )
 
   some-entry : ltb 0 count ≡ true
   some-entry = lt-ltb 0 count (list-some n (omega (arith, size-bounds n size)))
 
-  -- its words are patterns of the block
+  -- its patterns mark samples of the block only
   entry-fits : (i : ℕ) → i < count → wordOk n (getD (builtList n) i 0) ≡ true
   entry-fits i h =
       rw (built-at (built-is n (builtList n) count list-as-built) i h)
@@ -79,16 +83,16 @@ module _ (n : ℕ) (size : sizeOk n ≡ true) where
       go true e = rw (entry-fits entry (ltb-true entry count e))
       go false e = refl
 
--- what `wedgelets` answered for 756 words
-pub built-count : (n count : ℕ) → given count ≡ listAnswer n (replicate 756 0) → count ≡ length (wedgeletList n)
+-- what `wedgelets` answered for so many words is the number of patterns
+pub built-count : (n count : ℕ) → given count ≡ listAnswer n (replicate mostWords 0) → count ≡ length (wedgeletList n)
 unfolding listAnswer
-built-count n count e = sym (given-means (listRefusal n (length {A = ℕ} (replicate 756 0))) (length (wedgeletList n)) count (sym e) .1)
+built-count n count e = sym (given-means (listRefusal n (length {A = ℕ} (replicate mostWords 0))) (length (wedgeletList n)) count (sym e) .1)
 
 -- it refuses no allowed size
-pub never-refused : (n number : ℕ) → sizeOk n ≡ true → refused number ≡ listAnswer n (replicate 756 0) → ⊥
+pub never-refused : (n number : ℕ) → sizeOk n ≡ true → refused number ≡ listAnswer n (replicate mostWords 0) → ⊥
 unfolding listAnswer
 never-refused n number size e =
-    refused-means (listRefusal n (length {A = ℕ} (replicate 756 0))) number (length (wedgeletList n)) (sym e) .1 (none-refused n size)
+    refused-means (listRefusal n (length {A = ℕ} (replicate mostWords 0))) number (length (wedgeletList n)) (sym e) .1 (none-refused n size)
 
 -- ---- the answer as C gets it
 
@@ -103,8 +107,39 @@ least-told C = least-by C (chooseRefusal C) (chosen C) (λ e. chosen-least C (ac
 
 -- ---- the refusals of a choice
 
+module _ (n : ℕ) where
+  -- the patterns of words without marks, as many as a pattern of the greatest block has
+  abbrev pub blankList : List ℕ
+  blankList = patternsOf n (replicate greatestWords 0)
+
+  -- there is one for every size
+  blank-whole : 1 ≤ wholePatterns n greatestWords
+  blank-whole = go (leb n 8)
+    where
+      go : (b : Bool) → 1 ≤ greatestWords / cond b 1 greatestWords
+      go true = omega arith
+      go false = omega arith
+
+  -- a count of 1 is allowed
+  blank-allowed : countOk (length blankList) 1 ≡ true
+  blank-allowed = rw (length-patterns n (replicate greatestWords 0), le-leb 1 (wholePatterns n greatestWords) blank-whole)
+
+  -- the first has no marks, and fits the block
+  blank-at : patternAt n (replicate greatestWords 0) 0 ≡ 0
+  unfolding patternAt fourWords
+  blank-at = go (leb n 8)
+    where
+      go : (b : Bool) → cond b 0 (fourAt (replicate greatestWords 0) (greatestWords * 0)) ≡ 0
+      go true = refl
+      go false = refl
+
+  blank-fits : (i : ℕ) → i < 1 → wordOk n (getD blankList i 0) ≡ true
+  blank-fits i h =
+      let z : i ≡ 0 = omega arith in
+      rw (z, patterns-at n (replicate greatestWords 0) 0 blank-whole, blank-at) (lt-ltb 0 (2 ^ (n * n)) (pow-pos (n * n)))
+
 module _ (n : ℕ) (s o t : List ℕ) (R : ℕ) (x : List ℕ) where
-  -- the checks of a choice with a list that is not empty and whose words fit the block
+  -- the checks of a choice with a list that is not empty and whose patterns fit the block
   checks-by :
       (list : List ℕ) (count : ℕ) → countOk (length list) count ≡ true → wordsOk n list count ≡ true → ltb 0 count ≡ true
       → chooseRefusal (caseOf n list count s o t R x)
@@ -114,23 +149,21 @@ module _ (n : ℕ) (s o t : List ℕ) (R : ℕ) (x : List ℕ) where
   unfolding chooseRefusal lengthsOk
   checks-by list count a b c = rw (a, b, c)
 
-  blank-fits : (i : ℕ) → i < 1 → wordOk n (getD (0 ∷ []) i 0) ≡ true
-  blank-fits i h = let z : i ≡ 0 = omega arith in rw z (lt-ltb 0 (2 ^ (n * n)) (pow-pos (n * n)))
-
-  -- a list of one word without marks gives the same refusal
-  pub refusal-before : chooseRefusal (caseOf n (0 ∷ []) 1 s o t R x) ≡ chooseRefusal (builtCase n s o t R x)
+  -- a list of one pattern without marks gives the same refusal
+  pub refusal-before : chooseRefusal (caseOf n (blankList n) 1 s o t R x) ≡ chooseRefusal (builtCase n s o t R x)
   refusal-before = go (sizeOk n) refl
     where
-      go : (b : Bool) → sizeOk n ≡ b → chooseRefusal (caseOf n (0 ∷ []) 1 s o t R x) ≡ chooseRefusal (builtCase n s o t R x)
+      go : (b : Bool) → sizeOk n ≡ b → chooseRefusal (caseOf n (blankList n) 1 s o t R x) ≡ chooseRefusal (builtCase n s o t R x)
       go true e =
-          checks-by (0 ∷ []) 1 refl (words-all n (0 ∷ []) 1 blank-fits) refl
+          checks-by (blankList n) 1 (blank-allowed n) (words-all n (blankList n) 1 (blank-fits n)) refl
           ∙ sym (checks-by (builtList n) (length (wedgeletList n)) (count-allowed n e) (entries-fit n e) (some-entry n e))
-      go false e = sym (refused-size (caseOf n (0 ∷ []) 1 s o t R x) e) ∙ refused-size (builtCase n s o t R x) e
+      go false e = sym (refused-size (caseOf n (blankList n) 1 s o t R x) e) ∙ refused-size (builtCase n s o t R x) e
 
-  -- the case with the list and the count that `wedgelets` left
+  -- the case with the words and the count that `wedgelets` left
   pub built-same :
-      {list : List ℕ} {count : ℕ} → list ≡ builtList n → count ≡ length (wedgeletList n) → caseOf n list count s o t R x ≡ builtCase n s o t R x
-  built-same e k = λ i. caseOf n (e i) (k i) s o t R x
+      {words : List ℕ} {count : ℕ} → words ≡ listAfter n (replicate mostWords 0) → count ≡ length (wedgeletList n)
+      → caseOf n (patternsOf n words) count s o t R x ≡ builtCase n s o t R x
+  built-same e k = λ i. caseOf n (patternsOf n (e i)) (k i) s o t R x
 
   -- what is refused before the list is built is the choice's refusal
   pub refused-built : {r : ℕ} → r ≡ chooseRefusal (builtCase n s o t R x) → (r ≡ 0 → ⊥) → refused r ≡ chooseAnswer (builtCase n s o t R x)

@@ -1,20 +1,27 @@
--- What `depth_bench_pattern_of` answers, kind by kind. Assumes nothing.
-use Prim.Native.Nat.{ℕ, zero, suc, _*_}
+-- What `depth_bench_pattern_of` answers, kind by kind, and its words. Assumes nothing.
+use Prim.Native.Nat.{ℕ, zero, suc, _*_, _^_, _≤_, _<_}
 use mathlib.Core.Bool.{Bool, true, false, or-true}
-use mathlib.Core.List.{List}
+use mathlib.Core.List.{List, [], _∷_}
 use mathlib.Core.Logic.{_⊎_, ⊎-elim}
-use mathlib.Core.Path.{_≡_, refl, sym, ap, _∙_}
-use borrow.Author.Tests.{eq-eqb, ne-eqb, lt-ltb}
+use mathlib.Core.Path.{_≡_, refl, sym, ap, subst, _∙_}
+use native.Mathlib.Nat.{lt-of-lt-of-le}
+use borrow.Author.Tests.{eq-eqb, ne-eqb, lt-ltb, ltb-true}
 use lib.Dec.{eqb, ltb}
 use lib.ListN.{length, getD}
+use lib.Pow.{pow-pos, pow-mono}
 use Rattle.arith.specs.Checks.{unless, refused, given, answer}
-use Rattle.arith.proofs.CheckLaws.{passed, answer-refused, refused-means}
-use Rattle.pattern.specs.Size.{sizeOk}
+use Rattle.arith.proofs.CheckLaws.{passed, answer-refused, given-means, refused-means}
+use Rattle.pattern.specs.Size.{sizeOk, wordOk}
+use Rattle.pattern.specs.Words.{inFour}
 use Rattle.pattern.specs.Answer.{textureOk, textured, samplesRefusal, contourAnswer}
 use Rattle.pattern.specs.Contour.{contourOf}
+use Rattle.pattern.proofs.SizeLaws.{square-64}
+use Rattle.pattern.proofs.ContourLaws.{contour-lt}
+use Rattle.pattern.proofs.WordLaws.{one-word-number, in-four}
 use Rattle.wedgelet.specs.Wedgelet.{wedgeletList}
 use Rattle.choice.specs.Record.{PatternIn, patternBy}
 use Rattle.depth_bench.specs.Built.{builtList, builtCase, patternRefusal, patternAnswer}
+use Rattle.depth_bench.specs.Structs.{wordsStruct, patternStruct}
 use Rattle.depth_bench.proofs.Built.{entry-refusal}
 
 texture-fits : (t : List ℕ) (k : ℕ) → (length t ≡ 0) ⊎ (length t ≡ k) → textureOk (length t) k ≡ true
@@ -77,3 +84,30 @@ pattern-answers n s o t R x size optional kind entry =
     ⊎-elim
     (λ w. rw (w .0) (sym (wedgelet-answer n x size fits entry) ∙ rw (lt-ltb entry (length (wedgeletList n)) (w .1))))
     (λ w. rw (w .0) (sym (contour-answer n x size fits entry) ∙ rw (w .1, lt-ltb 0 (length x) (w .2))))
+
+-- ---- the words of an answered pattern
+
+-- a number of at most 64 bits has 0 in words 1 to 3
+first-of-four : (w : ℕ) → w < 2 ^ 64 → inFour w ≡ w ∷ 0 ∷ 0 ∷ 0 ∷ []
+first-of-four w h = ap inFour (sym (one-word-number w)) ∙ in-four w 0 0 0 h (pow-pos 64) (pow-pos 64)
+
+-- where no check fails, the pattern marks samples of the block only
+marks-inside :
+    (n kind entry : ℕ) (t : List ℕ) → patternRefusal n kind entry t ≡ 0 → patternBy (builtCase n [] [] [] 0 t) kind entry < 2 ^ (n * n)
+unfolding patternRefusal
+marks-inside n zero entry t e =
+    let a = passed (sizeOk n) 0 _ e in
+    let b = passed (textureOk (length t) (n * n)) 1 _ (a .1) in
+    let c = passed (ltb entry (length (wedgeletList n))) 5 _ (b .1) in
+    ltb-true _ _ (passed (wordOk n (getD (builtList n) entry 0)) 4 0 (c .1) .0)
+marks-inside n (suc kind) entry t e = contour-lt n t
+
+-- the answer for a block of at most 8 by 8 samples has the pattern in word 0, and 0 in words 1 to 3
+pub one-word-answered :
+    (n kind entry w : ℕ) (t : List ℕ) → n ≤ 8 → patternAnswer n kind entry t ≡ given w
+    → patternStruct (patternAnswer n kind entry t) ≡ wordsStruct (w ∷ 0 ∷ 0 ∷ 0 ∷ [])
+unfolding patternAnswer
+one-word-answered n kind entry w t h e =
+    let g = given-means (patternRefusal n kind entry t) (patternBy (builtCase n [] [] [] 0 t) kind entry) w e in
+    let inside = subst (λ (x : ℕ). x < 2 ^ (n * n)) (g .1) (marks-inside n kind entry t (g .0)) in
+    ap patternStruct e ∙ ap wordsStruct (first-of-four w (lt-of-lt-of-le inside (pow-mono (square-64 h))))

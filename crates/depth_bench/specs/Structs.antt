@@ -1,9 +1,10 @@
 -- The structs that C gets: a refusal has its number, and 0 in the other fields. Assumes nothing.
 use Prim.Native.Nat.{ℕ}
 use mathlib.Core.Path.{_≡_}
-use mathlib.Core.List.{[], _∷_}
+use mathlib.Core.List.{List, [], _∷_}
 use lib.IntN.{pos}
 use Rattle.arith.specs.Checks.{Answer, refused, given}
+use Rattle.pattern.specs.Words.{inFour}
 use Rattle.choice_checks.specs.Case.{Case}
 use Rattle.choice.specs.Record.{Record, LeastRecord}
 use Rattle.depth_bench.specs.declared.Prediction.{Prediction}
@@ -30,7 +31,11 @@ chosenRecord r = record { kind = r .kind; entry = r .entry; off0 = r .off0; off1
 abbrev pub LeastChoice : Case → Choice → Type 0
 LeastChoice C r = r .refusal ≡ 0 → LeastRecord C (chosenRecord r) (r .cost)
 
--- a pattern of at most 64 samples: word 0 has its marks
+-- a pattern that is not refused, by its words
+abbrev pub wordsStruct : List ℕ → Pattern
+wordsStruct words = record { refusal = 0; word = words }
+
+-- a pattern in four words, lowest bit first: one of at most 64 samples has 0 in words 1 to 3
 abbrev pub patternStruct : Answer ℕ → Pattern
 patternStruct (refused number) = record { refusal = number; word = 0 ∷ 0 ∷ 0 ∷ 0 ∷ [] }
-patternStruct (given w) = record { refusal = 0; word = w ∷ 0 ∷ 0 ∷ 0 ∷ [] }
+patternStruct (given w) = wordsStruct (inFour w)

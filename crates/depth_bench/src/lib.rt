@@ -6,16 +6,19 @@ ghost use lib.Dec.{eqb, ltb};
 ghost use lib.ListN.{length, getD};
 ghost use Rattle.arith.specs.Checks.{unless, refused, given, answer};
 ghost use Rattle.pattern.specs.Size.{sizeOk};
+ghost use Rattle.pattern.specs.Words.{patternNumber};
 ghost use Rattle.pattern.specs.Answer.{textureOk, textured};
 ghost use Rattle.pattern.specs.Contour.{contourOf};
 ghost use Rattle.wedgelet.specs.Wedgelet.{wedgeletList};
 ghost use Rattle.prediction.specs.Answer.{predictAnswer, predictBlock};
 ghost use Rattle.choice_checks.specs.Refusal.{chooseRefusal};
 ghost use Rattle.choice.specs.Answer.{chooseAnswer, chooseTold};
-ghost use Rattle.depth_bench.specs.Built.{builtList, builtCase, patternAnswer};
+ghost use Rattle.depth_bench.specs.Built.{usedWords, builtList, builtCase, patternAnswer};
 ghost use Rattle.depth_bench.specs.Structs.{predictionStruct, choiceStruct, refusedChoice, LeastChoice, patternStruct};
 use pattern::Contoured;
+use pattern::WORDS;
 use prediction::Predicted;
+use wedgelet::LIST_WORDS;
 use wedgelet::Listed;
 
 // The number of marks, or the number of the refusal beside 0.
@@ -36,12 +39,12 @@ pub struct Choice {
     pub cost: u32,
 }
 
-// The words of a pattern: bit y * n + x of word 0 is the mark of sample (x, y), and words 1 to 3 are 0; or the number of the refusal beside
-// zeros.
+// The words of a pattern, lowest bit first: bit y * n + x is the mark of sample (x, y), so that for n = 16 word k has rows 4k to 4k + 3,
+// and below that words 1 to 3 are 0; or the number of the refusal beside zeros.
 #[repr(C)]
 pub struct Pattern {
     pub refusal: u32,
-    pub word: [u64; 4],
+    pub word: [u64; WORDS],
 }
 
 // A byte as a longer number.
@@ -51,20 +54,33 @@ fn wide(number: u8) -> u32
     number as u32
 }
 
-// Writes the predicted block to the lent one, as `prediction::predict` does.
+// Writes the predicted block to the lent one, as `prediction::predict` does. Below n = 16 the pattern is word 0, and words 1 to 3 are not
+// read.
 #[no_mangle]
 pub extern "C" fn depth_bench_predict(
     n: usize,
-    word: u64,
+    word0: u64,
+    word1: u64,
+    word2: u64,
+    word3: u64,
     border: &[u8],
     table: &[u8],
     off0: i32,
     off1: i32,
     block: &mut [u8],
 ) -> Prediction
-    ensures { λ r. ⌜ (r ≡ predictionStruct (predictAnswer n word (now (border .entry)) (now (table .entry)) off0 off1 (length (now (block .entry))))) × (now (block .exit) ≡ predictBlock n word (now (border .entry)) (now (table .entry)) off0 off1 (now (block .entry))) ⌝ }
+    ensures { λ r.
+        let w = usedWords n word0 word1 word2 word3 in
+        ⌜ (r ≡ predictionStruct (predictAnswer n w (now (border .entry)) (now (table .entry)) off0 off1 (length (now (block .entry)))))
+        × (now (block .exit) ≡ predictBlock n w (now (border .entry)) (now (table .entry)) off0 off1 (now (block .entry))) ⌝ }
 {
-    let answer = prediction::predict(n, word, border, table, off0, off1, block);
+    let p = pattern::Pattern {
+        w0: word0,
+        w1: word1,
+        w2: word2,
+        w3: word3,
+    };
+    let answer = prediction::predict(n, p, border, table, off0, off1, block);
     match answer {
         Predicted::Marks(marks) => Prediction { refusal: 0, marks },
         Predicted::Refused(number) => Prediction {
@@ -106,7 +122,7 @@ fn told(answer: choice::Choice) -> Choice
 }
 
 // The refusal of a choice with the wedgelet list for n, before it is built: of a list the checks see only whether there is one and whether
-// its words fit the block, so that one word without marks stands for it.
+// its patterns fit the block, so that one pattern without marks stands for it.
 fn built_refusal(
     n: usize,
     border: &[u8],
@@ -119,8 +135,8 @@ fn built_refusal(
         let C = builtCase n (now (border .entry)) (now (original .entry)) (now (table .entry)) reach (now (texture .entry)) in
         ⌜ r ≡ chooseRefusal C ⌝ }
 {
-    let one = [0u64; 1];
-    choice_checks::choose_refusal(n, &one, 1, border, original, table, reach, texture)
+    let blank = [0u64; WORDS];
+    choice_checks::choose_refusal(n, &blank, 1, border, original, table, reach, texture)
 }
 
 // The record of least cost, with the wedgelet list for n, as `choice::choose` finds it. What is refused is refused before the list is
@@ -145,7 +161,7 @@ pub extern "C" fn depth_bench_choose(
     if refusal != 0 {
         return refused(refusal);
     }
-    let mut list = [0u64; 756];
+    let mut list = [0u64; LIST_WORDS];
     let built = wedgelet::wedgelets(n, &mut list);
     match built {
         Listed::Count(count) => told(choice::choose(
@@ -168,17 +184,17 @@ fn no_pattern(number: u8) -> Pattern
 {
     Pattern {
         refusal: number as u32,
-        word: [0u64; 4],
+        word: [0u64; WORDS],
     }
 }
 
-// A pattern of at most 64 samples, whose marks word 0 holds.
-fn pattern_in(word: u64) -> Pattern
-    ensures { λ r. ⌜ r ≡ patternStruct (given word) ⌝ }
+// A pattern in its words.
+fn pattern_in(p: pattern::Pattern) -> Pattern
+    ensures { λ r. ⌜ r ≡ patternStruct (given (patternNumber p)) ⌝ }
 {
     Pattern {
         refusal: 0,
-        word: [word, 0, 0, 0],
+        word: [p.w0, p.w1, p.w2, p.w3],
     }
 }
 
@@ -197,13 +213,13 @@ fn wedgelet_pattern(n: usize, entry: u32) -> Pattern
     requires { ⌜ sizeOk n ≡ true ⌝ }
     ensures { λ r. ⌜ r ≡ patternStruct (answer (unless (ltb entry (length (wedgeletList n))) 6 0) (getD (builtList n) entry 0)) ⌝ }
 {
-    let mut words = [0u64; 756];
+    let mut words = [0u64; LIST_WORDS];
     let built = wedgelet::wedgelets(n, &mut words);
     let at = entry as usize;
     match built {
         Listed::Count(count) => {
             if at < count {
-                return pattern_in(words[at]);
+                return pattern_in(pattern::pattern_at(n, &words, at));
             }
             no_pattern(6)
         }
@@ -225,7 +241,7 @@ fn contour_pattern(n: usize, entry: u32, texture: &[u8]) -> Pattern
         return no_pattern(21);
     }
     match pattern::contour(n, texture) {
-        Contoured::Word(word) => pattern_in(word),
+        Contoured::Pattern(p) => pattern_in(p),
         Contoured::Refused(number) => no_pattern(number),
     }
 }

@@ -42,7 +42,7 @@ edged = with 81 edge 1 []
 abbrev pub spotted : Case
 spotted = with 81 spots 2 spots
 
--- and two that are not: runs that both change by 70 and end on 80 and 170, and a list of one word
+-- and two that are not: runs that both change by 70 and end on 80 and 170, and a list of one pattern
 abbrev pub tied : Case
 tied = with 80 edge 1 []
 

@@ -10,6 +10,7 @@ use lib.ListN.{length}
 use Rattle.arith.specs.Checks.{given}
 use Rattle.arith.specs.Square.{transposedList}
 use Rattle.pattern.specs.Pattern.{transposed}
+use Rattle.pattern.specs.Words.{patternsOf}
 use Rattle.pattern.specs.Answer.{contourAnswer}
 use Rattle.wedgelet.specs.Answer.{listAnswer, listAfter, asBuilt}
 use Rattle.prediction.specs.Answer.{predictBlock}
@@ -111,8 +112,8 @@ module _ (n : ℕ) (neighbours original table : List ℕ) (reach : ℕ) (texture
 -- Demand 3. Every case that a choice accepts has its one record of least cost, whatever its list and its neighbours; the rest is said of
 -- the cases that are covered.
 pub record DiagonalLaw : Type 0 where
-  -- what `wedgelets` leaves in a lent list, with the count that it answers, is the list as built
-  pub built : (n : ℕ) (old : List ℕ) (count : ℕ) → listAnswer n old ≡ given count → asBuilt n (listAfter n old) count ≡ true
+  -- the patterns that `wedgelets` leaves in a lent list, with the count that it answers, are the list as built
+  pub built : (n : ℕ) (old : List ℕ) (count : ℕ) → listAnswer n old ≡ given count → asBuilt n (patternsOf n (listAfter n old)) count ≡ true
   -- what `contour` answers for texture that is lent is the pattern of kind 1
   pub outlined :
       (C : Case) → chooseRefusal C ≡ 0 → (r : Record) → Within C r → r .kind ≡ 1 → contourAnswer (C .n) (C .texture) ≡ given (patternOf C r)

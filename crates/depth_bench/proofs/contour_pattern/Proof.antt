@@ -30,8 +30,8 @@ returns-2 c =
 contour-requires : tie.Need-contour-requires
 contour-requires c κs = search needs
 
-enum-known-word : tie.Need-enum-known-word
-enum-known-word c = search needs
+enum-known-p : tie.Need-enum-known-p
+enum-known-p c = search needs
 
 pattern-in-requires : tie.Need-pattern-in-requires
 pattern-in-requires c κs = search needs
@@ -49,7 +49,7 @@ returns-3 c =
     let t = s .args .texture .now in
     rw (eq-eqb _ _ (d .before .if1 .left), lt-ltb 0 (length t) (omega (arith, d .if2 .left)))
     (c .pattern-in .ensures
-    ∙ ap (λ w. patternStruct (given w)) (contour-word (s .args .n) t (c .before .before .before .before .contour .ensures) (ap contourTold (c .before .before .word .given .1))))
+    ∙ ap (λ w. patternStruct (given w)) (contour-word (s .args .n) t (c .before .before .before .before .contour .ensures) (ap contourTold (c .before .before .p .given .1))))
 
 returns-4 : tie.Need-returns-4
 returns-4 c =
@@ -68,7 +68,7 @@ contour-pattern-spec =
     no-pattern-requires-2
     returns-2
     contour-requires
-    enum-known-word
+    enum-known-p
     pattern-in-requires
     enum-known-number
     no-pattern-requires-3

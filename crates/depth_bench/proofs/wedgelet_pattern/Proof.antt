@@ -6,10 +6,11 @@ use native.Mathlib.Omega.{arith}
 use borrow.Author.Tests.{lt-ltb, le-ltb}
 use lib.ListN.{length, getD}
 use Rattle.arith.specs.Checks.{given}
+use Rattle.pattern.specs.Words.{patternsOf}
 use Rattle.wedgelet.specs.Wedgelet.{wedgeletList}
 use Rattle.wedgelet.specs.Told.{listTold}
 use Rattle.depth_bench.specs.Structs.{patternStruct}
-use Rattle.depth_bench.proofs.Built.{built-count, built-few, never-refused}
+use Rattle.depth_bench.proofs.Built.{built-count, never-refused}
 use borrow.Author.Needs.{needs}
 use Rattle.depth_bench.proofs.wedgelet_pattern.Statement.{statement}
 use Rattle.depth_bench.proofs.wedgelet_pattern.Tie as tie
@@ -23,28 +24,26 @@ wedgelets-requires c κs = search needs
 enum-known-built : tie.Need-enum-known-built
 enum-known-built c = search needs
 
-mul-pattern-in : tie.Need-mul-pattern-in
-mul-pattern-in c = search needs
+slice-aggregate-pattern-at : tie.Need-slice-aggregate-pattern-at
+slice-aggregate-pattern-at c = search needs
 
-array-read-pattern-in : tie.Need-array-read-pattern-in
-array-read-pattern-in c =
-    let h = c .before .before in
-    let w = h .before .before .before in
-    let n = w .before .before .args .n in
-    let k = built-count n _ (ap listTold (sym (h .built .given .1)) ∙ w .wedgelets .ensures .0) in
-    omega (arith, k, built-few n (w .before .before .pre), c .if1 .taken)
+pattern-at-requires : tie.Need-pattern-at-requires
+pattern-at-requires c κs = search needs
 
 pattern-in-requires : tie.Need-pattern-in-requires
 pattern-in-requires c κs = search needs
 
 returns : tie.Need-returns
 returns c =
-    let h = c .before .before .before in
+    let q = c .before in
+    let h = q .before .before .before .before in
     let w = h .before .before .before in
     let a = w .before .before .args in
     let k = built-count (a .n) _ (ap listTold (sym (h .built .given .1)) ∙ w .wedgelets .ensures .0) in
-    rw (lt-ltb (a .entry) (length (wedgeletList (a .n))) (omega (arith, k, c .before .if1 .taken)))
-    (c .pattern-in .ensures ∙ ap (λ (l : List ℕ). patternStruct (given (getD l (a .entry) 0))) (w .wedgelets .ensures .1))
+    rw (lt-ltb (a .entry) (length (wedgeletList (a .n))) (omega (arith, k, q .before .before .if1 .taken)))
+    (c .pattern-in .ensures
+    ∙ ap (λ (x : ℕ). patternStruct (given x))
+    (q .pattern-at .ensures ∙ ap (λ (l : List ℕ). getD (patternsOf (a .n) l) (a .entry) 0) (w .wedgelets .ensures .1)))
 
 no-pattern-requires : tie.Need-no-pattern-requires
 no-pattern-requires c κs = search needs
@@ -77,8 +76,8 @@ wedgelet-pattern-spec =
     slice-aggregate-wedgelets
     wedgelets-requires
     enum-known-built
-    mul-pattern-in
-    array-read-pattern-in
+    slice-aggregate-pattern-at
+    pattern-at-requires
     pattern-in-requires
     returns
     no-pattern-requires
