@@ -1,5 +1,5 @@
-// Composes one sheet, to be timed from outside: 128 by 128 samples where standard input begins with the byte 8, else 64 by 64.
-// It prints the side and the number of records written.
+// Composes one sheet, to be timed from outside: 128 by 128 samples where standard input begins with the byte 8, else 64 by 64; in
+// blocks of 4 or 16 where the next byte is 4 or 6, else of 8. It prints the side and the number of records written.
 use libc::STDIN_FILENO;
 use libc::STDOUT_FILENO;
 use sheet::Composed;
@@ -7,11 +7,24 @@ use sheet::Made;
 use sheet::Sheet;
 use wedgelet::Listed;
 
-// The side that standard input asks for.
-fn side() -> u32 {
-    let mut asked = [0u8; 1];
-    io::read_full(STDIN_FILENO, &mut asked);
-    if asked[0] == b'8' { 128 } else { 64 }
+// The first two bytes of standard input; 0 for those that it does not have.
+fn asked() -> [u8; 2] {
+    let mut bytes = [0u8; 2];
+    io::read_full(STDIN_FILENO, &mut bytes);
+    bytes
+}
+
+// The side that a byte asks for.
+fn side(byte: u8) -> u32 {
+    if byte == b'8' { 128 } else { 64 }
+}
+
+// The block size that a byte asks for.
+fn size(byte: u8) -> u32 {
+    if byte == b'4' {
+        return 4;
+    }
+    if byte == b'6' { 16 } else { 8 }
 }
 
 // The first k samples, or all of them where there are fewer.
@@ -55,10 +68,10 @@ fn compose(sheet: Sheet, list: &[u64], count: usize, area: usize) -> usize {
     let mut samples = [0u8; 16384];
     let picture = original();
     let values = table();
-    let mut kinds = [0u32; 256];
-    let mut entries = [0u32; 256];
-    let mut offs0 = [0i32; 256];
-    let mut offs1 = [0i32; 256];
+    let mut kinds = [0u32; 1024];
+    let mut entries = [0u32; 1024];
+    let mut offs0 = [0i32; 1024];
+    let mut offs1 = [0i32; 1024];
     let composed = sheet.compose(
         first_mut(&mut samples, area),
         first(&picture, area),
@@ -78,29 +91,30 @@ fn compose(sheet: Sheet, list: &[u64], count: usize, area: usize) -> usize {
     }
 }
 
-// The same with the wedgelet list for blocks of 8.
+// The same with the wedgelet list for the sheet's blocks.
 fn with_list(sheet: Sheet, area: usize) -> usize {
-    let mut list = [0u64; 756];
-    let listed = wedgelet::wedgelets(8, &mut list);
+    let mut list = [0u64; wedgelet::LIST_WORDS];
+    let listed = wedgelet::wedgelets(sheet.n as usize, &mut list);
     match listed {
         Listed::Count(count) => compose(sheet, &list, count, area),
         Listed::Refused(_) => 0,
     }
 }
 
-// The number of records written to a new sheet of blocks of 8.
-fn written(side: u32, area: usize) -> usize {
-    match Sheet::new(8, side, side) {
+// The number of records written to a new sheet of blocks of n.
+fn written(n: u32, side: u32, area: usize) -> usize {
+    match Sheet::new(n, side, side) {
         Made::New(sheet) => with_list(sheet, area),
         Made::Refused(_) => 0,
     }
 }
 
 fn main() {
-    let side = side();
+    let bytes = asked();
+    let side = side(bytes[0]);
     let area = if side == 128 { 16384 } else { 4096 };
     io::print_decimal(STDOUT_FILENO, side as u64);
     io::write_all(STDOUT_FILENO, b" ");
-    io::print_decimal(STDOUT_FILENO, written(side, area) as u64);
+    io::print_decimal(STDOUT_FILENO, written(size(bytes[1]), side, area) as u64);
     io::write_all(STDOUT_FILENO, b"\n");
 }

@@ -2,6 +2,7 @@
 // They are not part of include/depth_bench.h.
 ghost use mathlib.Core.Path.{_≡_};
 ghost use lib.ListN.{length};
+ghost use Rattle.pattern.specs.Words.{patternsOf};
 ghost use Rattle.choice_checks.specs.Case.{caseOf};
 ghost use Rattle.choice.specs.Answer.{chooseAnswer};
 ghost use Rattle.sheet.specs.State.{stateOf};
@@ -55,12 +56,16 @@ fn wide(number: u8) -> u32
     number as u32
 }
 
-// Reads a file into the lent slices, as `record_read::read` does.
+// Reads a file with a list for each size into the lent slices, as `record_read::read` does.
 #[no_mangle]
-pub extern "C" fn file_calls_read(
+pub extern "C" fn file_calls_read<'a>(
     bytes: &[u8],
-    list: &[u64],
-    count: usize,
+    list4: &'a [u64],
+    count4: usize,
+    list8: &'a [u64],
+    count8: usize,
+    list16: &'a [u64],
+    count16: usize,
     texture: &[u8],
     samples: &mut [u8],
     kinds: &mut [u32],
@@ -68,14 +73,33 @@ pub extern "C" fn file_calls_read(
     offs0: &mut [i32],
     offs1: &mut [i32],
 ) -> FileRead
-    ensures answered { λ r. ⌜ r ≡ fileReadOf (fileBack (readFile (aidsOf (now (list .entry)) count (now (texture .entry))) (length (now (samples .entry))) (recordsLent (length (now (kinds .entry))) (length (now (entries .entry))) (length (now (offs0 .entry))) (length (now (offs1 .entry)))) (now (bytes .entry)))) ⌝ }
-    ensures kept { λ r. ⌜ _≡_ {A = Slices} (now (kinds .exit), (now (entries .exit), (now (offs0 .exit), now (offs1 .exit)))) (leaving (readFile (aidsOf (now (list .entry)) count (now (texture .entry))) (length (now (samples .entry))) (recordsLent (length (now (kinds .entry))) (length (now (entries .entry))) (length (now (offs0 .entry))) (length (now (offs1 .entry)))) (now (bytes .entry))) (λ F. recordsBack F (now (kinds .entry), (now (entries .entry), (now (offs0 .entry), now (offs1 .entry))))) (now (kinds .entry), (now (entries .entry), (now (offs0 .entry), now (offs1 .entry))))) ⌝ }
-    ensures drawn { λ r. ⌜ now (samples .exit) ≡ leaving (readFile (aidsOf (now (list .entry)) count (now (texture .entry))) (length (now (samples .entry))) (recordsLent (length (now (kinds .entry))) (length (now (entries .entry))) (length (now (offs0 .entry))) (length (now (offs1 .entry)))) (now (bytes .entry))) (λ F. samplesBack (aidsOf (now (list .entry)) count (now (texture .entry))) F (now (samples .entry))) (now (samples .entry)) ⌝ }
+    ensures answered { λ r.
+        let A = aidsOf (now (list4 .entry)) count4 (now (list8 .entry)) count8 (now (list16 .entry)) count16 (now (texture .entry)) in
+        let records = recordsLent (length (now (kinds .entry))) (length (now (entries .entry)))
+        (length (now (offs0 .entry))) (length (now (offs1 .entry))) in
+        ⌜ r ≡ fileReadOf (fileBack (readFile A (length (now (samples .entry))) records (now (bytes .entry)))) ⌝ }
+    ensures kept { λ r.
+        let A = aidsOf (now (list4 .entry)) count4 (now (list8 .entry)) count8 (now (list16 .entry)) count16 (now (texture .entry)) in
+        let records = recordsLent (length (now (kinds .entry))) (length (now (entries .entry)))
+        (length (now (offs0 .entry))) (length (now (offs1 .entry))) in
+        let old : Slices = (now (kinds .entry), (now (entries .entry), (now (offs0 .entry), now (offs1 .entry)))) in
+        ⌜ _≡_ {A = Slices} (now (kinds .exit), (now (entries .exit), (now (offs0 .exit), now (offs1 .exit))))
+        (leaving (readFile A (length (now (samples .entry))) records (now (bytes .entry))) (λ F. recordsBack F old) old) ⌝ }
+    ensures drawn { λ r.
+        let A = aidsOf (now (list4 .entry)) count4 (now (list8 .entry)) count8 (now (list16 .entry)) count16 (now (texture .entry)) in
+        let records = recordsLent (length (now (kinds .entry))) (length (now (entries .entry)))
+        (length (now (offs0 .entry))) (length (now (offs1 .entry))) in
+        let old = now (samples .entry) in
+        ⌜ now (samples .exit) ≡ leaving (readFile A (length old) records (now (bytes .entry))) (λ F. samplesBack A F old) old ⌝ }
 {
     let back = record_read::read(
         bytes,
-        list,
-        count,
+        list4,
+        count4,
+        list8,
+        count8,
+        list16,
+        count16,
         texture,
         samples,
         kinds,
@@ -112,8 +136,18 @@ pub extern "C" fn file_calls_write(
     offs1: &[i32],
     out: &mut [u8],
 ) -> FileWritten
-    ensures answered { λ r. ⌜ r ≡ fileWrittenOf (writeAnswer (sourceOf (stateOf n width height placed) (now (table .entry)) (recordAt (now (kinds .entry)) (now (entries .entry)) (now (offs0 .entry)) (now (offs1 .entry)))) (now (list .entry)) count (recordsLent (length (now (kinds .entry))) (length (now (entries .entry))) (length (now (offs0 .entry))) (length (now (offs1 .entry)))) (length (now (out .entry)))) ⌝ }
-    ensures left { λ r. ⌜ now (out .exit) ≡ writeAfter (sourceOf (stateOf n width height placed) (now (table .entry)) (recordAt (now (kinds .entry)) (now (entries .entry)) (now (offs0 .entry)) (now (offs1 .entry)))) (now (list .entry)) count (recordsLent (length (now (kinds .entry))) (length (now (entries .entry))) (length (now (offs0 .entry))) (length (now (offs1 .entry)))) (now (out .entry)) ⌝ }
+    ensures answered { λ r.
+        let R = recordAt (now (kinds .entry)) (now (entries .entry)) (now (offs0 .entry)) (now (offs1 .entry)) in
+        let S = sourceOf (stateOf n width height placed) (now (table .entry)) R in
+        let records = recordsLent (length (now (kinds .entry))) (length (now (entries .entry)))
+        (length (now (offs0 .entry))) (length (now (offs1 .entry))) in
+        ⌜ r ≡ fileWrittenOf (writeAnswer S (patternsOf n (now (list .entry))) count records (length (now (out .entry)))) ⌝ }
+    ensures left { λ r.
+        let R = recordAt (now (kinds .entry)) (now (entries .entry)) (now (offs0 .entry)) (now (offs1 .entry)) in
+        let S = sourceOf (stateOf n width height placed) (now (table .entry)) R in
+        let records = recordsLent (length (now (kinds .entry))) (length (now (entries .entry)))
+        (length (now (offs0 .entry))) (length (now (offs1 .entry))) in
+        ⌜ now (out .exit) ≡ writeAfter S (patternsOf n (now (list .entry))) count records (now (out .entry)) ⌝ }
 {
     let sheet = Sheet {
         n,
@@ -143,8 +177,10 @@ pub extern "C" fn file_calls_choose(
     reach: u32,
     texture: &[u8],
 ) -> FileChosen
-    ensures { λ r. ⌜ r ≡ chosenOf (chooseAnswer (caseOf n (now (list .entry)) count (now (border .entry)) (now (original .entry))
-        (now (table .entry)) reach (now (texture .entry)))) ⌝ }
+    ensures { λ r.
+        let C = caseOf n (patternsOf n (now (list .entry))) count (now (border .entry)) (now (original .entry))
+        (now (table .entry)) reach (now (texture .entry)) in
+        ⌜ r ≡ chosenOf (chooseAnswer C) ⌝ }
 {
     let answer = choice::choose(n, list, count, border, original, table, reach, texture);
     match answer {

@@ -15,10 +15,19 @@ fn count(case: usize) -> usize {
     match case {
         0..=6 => 2,
         7..=9 => 0,
-        13 => 3,
+        13 | 22 => 3,
         16 => 10000,
-        20 => 2,
+        20 | 21 => 2,
         _ => 1,
+    }
+}
+
+// The number of words of the list.
+fn list_length(case: usize) -> usize {
+    match case {
+        16 => 10000,
+        21 | 22 => 11,
+        _ => 2,
     }
 }
 
@@ -41,7 +50,7 @@ fn original_length(case: usize, area: usize) -> usize {
 
 // The number of lent samples: one more in case 19.
 fn samples_length(case: usize, area: usize) -> usize
-    requires { ⌜ area ≤ 1056 ⌝ }
+    requires { ⌜ area ≤ 2112 ⌝ }
 {
     if case == 19 {
         return area + 1;
@@ -87,7 +96,7 @@ fn refusal(
     number_of(state.compose(
         lent,
         original,
-        parts::words(&words, either(case == 16, 10000, 2)),
+        parts::words(&words, list_length(case)),
         count(case),
         parts::first(&table, faults::table_count(case)),
         reach(case),
@@ -154,25 +163,39 @@ fn with_samples(case: usize, state: Sheet, lent: &mut [u8], original: &[u8], tex
     );
 }
 
-// The state: n is 8 in case 20.
-fn state_of(case: usize, width: u32) -> Sheet {
-    let n = if case == 20 { 8 } else { 4 };
-    faults::state(case, n, width)
+// The block size where the case has no fault in it.
+fn size(case: usize) -> u32 {
+    match case {
+        20 => 8,
+        21 | 22 => 16,
+        _ => 4,
+    }
+}
+
+// The height, and the width where the case has no fault in it.
+fn side(case: usize) -> u32
+    ensures { λ r. ⌜ r ≤ 132 ⌝ }
+{
+    match case {
+        21 | 22 => 16,
+        _ => 8,
+    }
 }
 
 // A case, with its samples, original and texture.
 fn line(case: usize)
-    requires { ⌜ case ≤ 20 ⌝ }
+    requires { ⌜ case ≤ 22 ⌝ }
 {
-    let width = faults::width(case, 8);
-    let area = width as usize * 8;
+    let height = side(case);
+    let width = faults::width(case, height);
+    let area = faults::area(width, height);
     let mut lent = samples(Source::Bytes, 80000 + case as u64);
     let smooth = samples(Source::Smooth, 0);
     output::text(b"refused compose");
     output::number(case as u64);
     with_samples(
         case,
-        state_of(case, width),
+        faults::state(case, size(case), width, height),
         parts::first_mut(&mut lent, samples_length(case, area)),
         parts::first(&smooth, original_length(case, area)),
         parts::first(&smooth, texture_length(case, area)),
@@ -181,7 +204,7 @@ fn line(case: usize)
 
 // The lines of all cases.
 pub(crate) fn print() {
-    for case in 0..21 {
+    for case in 0..23 {
         line(case);
     }
 }

@@ -24,15 +24,26 @@ fn placed(case: usize) -> u32 {
     }
 }
 
-// The state, of a height of 8.
-pub(crate) fn state(case: usize, n: u32, width: u32) -> Sheet {
+// The state; n is 5 in case 0.
+pub(crate) fn state(case: usize, n: u32, width: u32, height: u32) -> Sheet {
     let size = if case == 0 { 5 } else { n };
     Sheet {
         n: size,
         width,
-        height: 8,
+        height,
         placed: placed(case),
     }
+}
+
+// The samples of a sheet of a height of 8 or 16.
+pub(crate) fn area(width: u32, height: u32) -> usize
+    requires { ⌜ width ≤ 132 ⌝ }
+    ensures { λ r. ⌜ r ≤ 2112 ⌝ }
+{
+    if height == 16 {
+        return width as usize * 16;
+    }
+    width as usize * 8
 }
 
 // The number of lent samples: one is missing in the cases 0 and 1.

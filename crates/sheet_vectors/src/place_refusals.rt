@@ -13,7 +13,15 @@ use sheet::Sheet;
 fn count(case: usize) -> usize {
     match case {
         17 | 18 => 0,
-        19 => 3,
+        19 | 24 => 3,
+        _ => 2,
+    }
+}
+
+// The number of words of the list.
+fn list_length(case: usize) -> usize {
+    match case {
+        23..=25 => 11,
         _ => 2,
     }
 }
@@ -40,8 +48,9 @@ fn kind(case: usize) -> u32 {
 fn entry(case: usize) -> u32 {
     match case {
         0..=7 => 1,
-        9 => 2,
-        10 | 22 => 1,
+        9 | 25 => 2,
+        10 => 1,
+        22..=24 => 1,
         _ => 0,
     }
 }
@@ -76,7 +85,7 @@ fn refusal(case: usize, state: Sheet, lent: &mut [u8], texture: &[u8]) -> u8 {
     let table = faults::table(case);
     number_of(state.place(
         lent,
-        parts::words(&words, 2),
+        parts::words(&words, list_length(case)),
         count(case),
         parts::first(&table, faults::table_count(case)),
         texture,
@@ -91,13 +100,28 @@ fn refusal(case: usize, state: Sheet, lent: &mut [u8], texture: &[u8]) -> u8 {
 fn sound_width(case: usize) -> u32
     ensures { λ r. ⌜ r ≤ 132 ⌝ }
 {
-    if case == 21 { 132 } else { 8 }
+    match case {
+        21 => 132,
+        23..=25 => 16,
+        _ => 8,
+    }
 }
 
-// The state: n is 8 in case 22.
-fn state_of(case: usize, width: u32) -> Sheet {
-    let n = if case == 22 { 8 } else { 4 };
-    faults::state(case, n, width)
+// The height.
+fn height_of(case: usize) -> u32 {
+    match case {
+        23..=25 => 16,
+        _ => 8,
+    }
+}
+
+// The block size where the case has no fault in it.
+fn size(case: usize) -> u32 {
+    match case {
+        22 => 8,
+        23..=25 => 16,
+        _ => 4,
+    }
 }
 
 // The line of a case, with the checksums of the samples.
@@ -114,15 +138,16 @@ fn with_samples(case: usize, state: Sheet, lent: &mut [u8], texture: &[u8]) {
 
 // A case, with its samples and texture.
 fn line(case: usize)
-    requires { ⌜ case ≤ 22 ⌝ }
+    requires { ⌜ case ≤ 25 ⌝ }
 {
     let width = faults::width(case, sound_width(case));
-    let area = width as usize * 8;
+    let height = height_of(case);
+    let area = faults::area(width, height);
     let mut lent = samples(Source::Bytes, 80000 + case as u64);
     let texture = samples(Source::Smooth, 0);
     with_samples(
         case,
-        state_of(case, width),
+        faults::state(case, size(case), width, height),
         parts::first_mut(&mut lent, faults::samples(case, area)),
         parts::first(&texture, texture_length(case, area)),
     );
@@ -130,7 +155,7 @@ fn line(case: usize)
 
 // The lines of all cases.
 pub(crate) fn print() {
-    for case in 0..23 {
+    for case in 0..26 {
         line(case);
     }
 }

@@ -9,36 +9,45 @@ use crate::samples::samples;
 use crate::start;
 use sheet::Composed;
 use sheet::Sheet;
+use wedgelet::LIST_WORDS;
 
 // The cases in decimal digits: n, width, height, original, table, reach, texture, and the records that are placed before.
-const CASES: [u64; 27] = [
-    4_004_004_0_0_0_0_000,
-    4_004_004_1_1_1_1_000,
-    4_004_004_1_0_5_0_000,
-    4_008_008_1_0_5_2_000,
-    4_008_008_0_1_1_0_000,
-    4_008_008_1_1_5_2_002,
-    4_008_008_1_0_1_0_003,
-    4_012_004_1_0_5_0_000,
-    4_012_004_1_1_1_2_001,
-    4_012_004_0_0_0_0_002,
-    4_004_012_1_0_5_0_000,
-    4_004_012_1_1_1_2_001,
-    4_004_012_0_0_0_1_002,
-    4_012_012_1_0_5_2_004,
-    8_008_008_1_0_5_2_000,
-    8_008_008_0_1_1_0_000,
-    8_016_024_1_0_5_2_000,
-    8_016_024_1_0_5_0_003,
-    8_016_024_0_1_1_2_001,
-    8_016_024_0_0_0_1_005,
-    8_024_016_1_0_5_2_002,
-    4_128_128_1_0_1_2_000,
-    8_128_128_1_0_1_2_000,
-    4_128_128_0_1_1_0_500,
-    8_128_128_0_0_1_0_100,
-    4_128_004_1_0_1_2_007,
-    8_008_128_1_0_1_0_009,
+const CASES: [u64; 35] = [
+    04_004_004_0_0_000_0_000,
+    04_004_004_1_1_001_1_000,
+    04_004_004_1_0_005_0_000,
+    04_008_008_1_0_005_2_000,
+    04_008_008_0_1_001_0_000,
+    04_008_008_1_1_005_2_002,
+    04_008_008_1_0_001_0_003,
+    04_012_004_1_0_005_0_000,
+    04_012_004_1_1_001_2_001,
+    04_012_004_0_0_000_0_002,
+    04_004_012_1_0_005_0_000,
+    04_004_012_1_1_001_2_001,
+    04_004_012_0_0_000_1_002,
+    04_012_012_1_0_005_2_004,
+    08_008_008_1_0_005_2_000,
+    08_008_008_0_1_001_0_000,
+    08_016_024_1_0_005_2_000,
+    08_016_024_1_0_005_0_003,
+    08_016_024_0_1_001_2_001,
+    08_016_024_0_0_000_1_005,
+    08_024_016_1_0_005_2_002,
+    04_128_128_1_0_001_2_000,
+    08_128_128_1_0_001_2_000,
+    04_128_128_0_1_001_0_500,
+    08_128_128_0_0_001_0_100,
+    04_128_004_1_0_001_2_007,
+    08_008_128_1_0_001_0_009,
+    16_016_016_0_0_000_0_000,
+    16_016_016_1_0_005_2_000,
+    16_016_016_1_1_255_1_000,
+    16_032_032_1_0_005_2_002,
+    16_048_016_0_1_001_0_001,
+    16_016_048_1_0_001_1_001,
+    16_064_064_1_0_005_0_003,
+    16_128_128_1_0_001_2_000,
 ];
 
 // As many records are lent.
@@ -58,17 +67,17 @@ struct Case {
 
 // The case of a number.
 fn case_of(number: usize) -> Case
-    requires { ⌜ number ≤ 26 ⌝ }
+    requires { ⌜ number ≤ 34 ⌝ }
     ensures { λ r. ⌜ r .first ≤ 999 ⌝ }
 {
     let digits = CASES[number];
     Case {
-        n: (digits / 10_000_000_000_000 % 10) as u32,
-        width: (digits / 10_000_000_000 % 1000) as u32,
-        height: (digits / 10_000_000 % 1000) as u32,
-        original: (digits / 1_000_000 % 10) as usize,
-        table: (digits / 100_000 % 10) as usize,
-        reach: (digits / 10_000 % 10) as u32,
+        n: (digits / 1_000_000_000_000_000 % 100) as u32,
+        width: (digits / 1_000_000_000_000 % 1000) as u32,
+        height: (digits / 1_000_000_000 % 1000) as u32,
+        original: (digits / 100_000_000 % 10) as usize,
+        table: (digits / 10_000_000 % 10) as usize,
+        reach: (digits / 10_000 % 1000) as u32,
         texture: (digits / 1000 % 10) as usize,
         first: (digits % 1000) as usize,
     }
@@ -167,6 +176,7 @@ fn composed(
     lent: &mut [u8],
     original: &[u8],
     list: &[u64],
+    count: usize,
     table: &[u8],
     reach: u32,
     texture: &[u8],
@@ -179,7 +189,7 @@ fn composed(
         lent,
         original,
         list,
-        list.len(),
+        count,
         table,
         reach,
         texture,
@@ -203,11 +213,30 @@ fn composed(
 fn with_list(number: usize, c: Case, lent: &mut [u8], original: &[u8], table: &[u8], texture: &[u8])
     requires { ⌜ c .first ≤ 999 ⌝ }
 {
-    let mut words = [0u64; 756];
-    let count = lists::build(c.n as usize, &mut words);
-    let list = parts::words(&words, count);
-    let state = start::state(c.n, c.width, c.height, lent, list, table, texture, c.first);
-    composed(number, state, lent, original, list, table, c.reach, texture);
+    let mut list = [0u64; LIST_WORDS];
+    let count = lists::build(c.n as usize, &mut list);
+    let state = start::state(
+        c.n,
+        c.width,
+        c.height,
+        lent,
+        &list,
+        count,
+        table,
+        texture,
+        c.first,
+    );
+    composed(
+        number,
+        state,
+        lent,
+        original,
+        &list,
+        count,
+        table,
+        c.reach,
+        texture,
+    );
 }
 
 // The sheet with the case's table: 0 to 255, or 100, 128, 140.
@@ -254,7 +283,7 @@ fn original_source(original: usize) -> Source {
 
 // The lines of a case.
 fn lines(number: usize)
-    requires { ⌜ number ≤ 26 ⌝ }
+    requires { ⌜ number ≤ 34 ⌝ }
 {
     let c = case_of(number);
     let area = area(c.width, c.height);
@@ -270,7 +299,7 @@ fn lines(number: usize)
 
 // The lines of all cases.
 pub(crate) fn print() {
-    for number in 0..27 {
+    for number in 0..35 {
         lines(number);
     }
 }

@@ -27,13 +27,13 @@ fn placed(
     state: Sheet,
     samples: &mut [u8],
     list: &[u64],
+    count: usize,
     table: &[u8],
     texture: &[u8],
     i: usize,
 ) -> Sheet
     requires { ⌜ i ≤ 1024 ⌝ }
 {
-    let count = list.len();
     if 0 < texture.len() {
         if i % 2 == 1 {
             let contour = state.place(samples, list, count, table, texture, 1, 0, 1, -1);
@@ -50,6 +50,7 @@ fn placed_first(
     empty: Sheet,
     samples: &mut [u8],
     list: &[u64],
+    count: usize,
     table: &[u8],
     texture: &[u8],
     k: usize,
@@ -58,7 +59,7 @@ fn placed_first(
 {
     let mut state = empty;
     for i in 0..k {
-        state = placed(state, samples, list, table, texture, i);
+        state = placed(state, samples, list, count, table, texture, i);
     }
     state
 }
@@ -84,11 +85,20 @@ pub(crate) fn state(
     height: u32,
     samples: &mut [u8],
     list: &[u64],
+    count: usize,
     table: &[u8],
     texture: &[u8],
     k: usize,
 ) -> Sheet
     requires { ⌜ k ≤ 1024 ⌝ }
 {
-    placed_first(empty(n, width, height), samples, list, table, texture, k)
+    placed_first(
+        empty(n, width, height),
+        samples,
+        list,
+        count,
+        table,
+        texture,
+        k,
+    )
 }

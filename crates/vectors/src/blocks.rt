@@ -4,17 +4,18 @@ use crate::output;
 use crate::parts;
 use crate::samples::Source;
 use crate::samples::samples;
+use pattern::SAMPLES;
 
 // The samples of the transposed block.
-fn transposed(n: usize, block: &[u8]) -> [u8; 64] {
-    let mut out = [0u8; 64];
+fn transposed(n: usize, block: &[u8]) -> [u8; SAMPLES] {
+    let mut out = [0u8; SAMPLES];
     let b = block::transposed(n, block::block_of(n, block));
     block::write_block(n, b, parts::first_mut(&mut out, parts::area(n)));
     out
 }
 
 fn line(n: usize, case: usize)
-    requires { ⌜ (1 ≤ n) × (n ≤ 8) × (case ≤ 3) ⌝ }
+    requires { ⌜ (1 ≤ n) × (n ≤ 16) × (case ≤ 3) ⌝ }
 {
     let area = parts::area(n);
     let block = samples(Source::Bytes, n, (500 + 10 * case + n) as u64);
@@ -25,7 +26,7 @@ fn line(n: usize, case: usize)
 }
 
 pub(crate) fn lines(n: usize)
-    requires { ⌜ (1 ≤ n) × (n ≤ 8) ⌝ }
+    requires { ⌜ (1 ≤ n) × (n ≤ 16) ⌝ }
 {
     line(n, 0);
     line(n, 1);

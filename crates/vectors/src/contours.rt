@@ -9,13 +9,13 @@ use pattern::Contoured;
 fn contour(n: usize, texture: &[u8]) {
     let contoured = pattern::contour(n, texture);
     match contoured {
-        Contoured::Word(word) => output::word(word),
+        Contoured::Pattern(p) => output::pattern(n, p),
         Contoured::Refused(r) => output::refused(r),
     }
 }
 
 fn line(case: usize, n: usize)
-    requires { ⌜ (1 ≤ n) × (n ≤ 8) × (case ≤ 23) ⌝ }
+    requires { ⌜ (1 ≤ n) × (n ≤ 16) × (case ≤ 23) ⌝ }
 {
     output::head(b"contour", n, case);
     let texture = samples(Source::Texture(case), n, (case * 1000 + n) as u64);
@@ -24,7 +24,7 @@ fn line(case: usize, n: usize)
 }
 
 pub(crate) fn lines(n: usize)
-    requires { ⌜ (1 ≤ n) × (n ≤ 8) ⌝ }
+    requires { ⌜ (1 ≤ n) × (n ≤ 16) ⌝ }
 {
     for case in 0..24 {
         line(case, n);

@@ -17,11 +17,14 @@ mod words;
 fn main() {
     lists::lines(4);
     lists::lines(8);
+    lists::lines(16);
     contours::lines(4);
     contours::lines(8);
+    contours::lines(16);
     indices::print();
     blocks::lines(4);
     blocks::lines(8);
+    blocks::lines(16);
     table_refusals::print();
     pattern_refusals::print();
     depths::print();

@@ -1,5 +1,6 @@
 // The fields of the vectors, written to standard output.
 use libc::STDOUT_FILENO;
+use pattern::Pattern;
 
 // Bytes as they are.
 pub(crate) fn text(bytes: &[u8]) {
@@ -42,8 +43,18 @@ pub(crate) fn refused(r: u8) {
 }
 
 // A word's 16 hexadecimal digits.
-pub(crate) fn digits(w: u64) {
+fn digits(w: u64) {
     io::print_hex(STDOUT_FILENO, w, 16);
+}
+
+// A pattern's hexadecimal digits: those of the first word, for N = 16 those of all four, the last word first.
+pub(crate) fn pattern_digits(n: usize, p: Pattern) {
+    if n == 16 {
+        digits(p.w3);
+        digits(p.w2);
+        digits(p.w1);
+    }
+    digits(p.w0);
 }
 
 // The start of a line: what it tells of, and two numbers.
@@ -53,10 +64,10 @@ pub(crate) fn head(name: &[u8], a: usize, b: usize) {
     number(b);
 }
 
-// A space and a word.
-pub(crate) fn word(w: u64) {
+// A space and a pattern.
+pub(crate) fn pattern(n: usize, p: Pattern) {
     text(b" ");
-    digits(w);
+    pattern_digits(n, p);
 }
 
 // The samples, a space before each.

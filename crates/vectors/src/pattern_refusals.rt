@@ -2,6 +2,7 @@
 use crate::output;
 use crate::parts;
 use pattern::Contoured;
+use wedgelet::LIST_WORDS;
 use wedgelet::Listed;
 
 // The refusal of a lent list; 0 for none.
@@ -14,7 +15,7 @@ fn list_refusal(n: usize, list: &mut [u64]) -> u8 {
 }
 
 fn list_line(n: usize, length: usize) {
-    let mut list = [0u64; 756];
+    let mut list = [0u64; LIST_WORDS];
     let refusal = list_refusal(n, parts::words_mut(&mut list, length));
     output::head(b"refusal wedgelets", n, length);
     output::small(refusal);
@@ -32,7 +33,7 @@ fn sizes() {
 fn contour_refusal(n: usize, texture: &[u8]) -> u8 {
     let contoured = pattern::contour(n, texture);
     match contoured {
-        Contoured::Word(_) => 0,
+        Contoured::Pattern(_) => 0,
         Contoured::Refused(r) => r,
     }
 }
@@ -55,7 +56,7 @@ fn samples_refusal(n: usize, samples: &mut [u8]) -> u8 {
 }
 
 fn samples_line(n: usize, length: usize) {
-    let mut samples = [0u8; 256];
+    let mut samples = [0u8; 257];
     let refusal = samples_refusal(n, parts::first_mut(&mut samples, length));
     output::head(b"refusal contour", n, length);
     output::small(refusal);
@@ -70,7 +71,10 @@ fn samples_lines(n: usize) {
     samples_line(n, 63);
     samples_line(n, 64);
     samples_line(n, 65);
+    samples_line(n, 144);
+    samples_line(n, 255);
     samples_line(n, 256);
+    samples_line(n, 257);
 }
 
 fn lists() {
@@ -81,6 +85,11 @@ fn lists() {
     list_line(8, 132);
     list_line(8, 755);
     list_line(8, 756);
+    list_line(16, 3540);
+    list_line(16, 14159);
+    list_line(16, 14160);
+    list_line(12, 14160);
+    list_line(32, 14160);
 }
 
 pub(crate) fn print() {
@@ -90,5 +99,7 @@ pub(crate) fn print() {
     samples_lines(4);
     samples_lines(5);
     samples_lines(8);
+    samples_lines(12);
     samples_lines(16);
+    samples_lines(32);
 }

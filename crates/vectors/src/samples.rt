@@ -1,6 +1,7 @@
 // The samples of textures, blocks and borders.
 ghost use Prim.Native.Nat.{_≤_};
 use crate::random::Random;
+use pattern::SAMPLES;
 
 // Where samples come from: pseudo-random bytes, a texture of section `contours`, or the rising border of section `sides`.
 pub(crate) enum Source {
@@ -54,22 +55,30 @@ fn texture_sample(case: usize, n: usize, i: usize, byte: u8) -> u8
     }
 }
 
-// Sample i of the border L(k) = 10 + 10 * k, T(k) = 100 + 10 * k; `end` is added to L(2N - 1).
+// The rise over k samples: 10 * k, for N = 16 5 * k.
+fn rise(n: usize, k: usize) -> usize
+    requires { ⌜ k ≤ 255 ⌝ }
+    ensures { λ r. ⌜ r ≤ 2550 ⌝ }
+{
+    if n == 16 { 5 * k } else { 10 * k }
+}
+
+// Sample i of the border L(k) = 10 + 10 * k, T(k) = 100 + 10 * k, for N = 16 with 5 * k; `end` is added to L(2N - 1).
 fn rising_sample(n: usize, i: usize, end: u8) -> u8
-    requires { ⌜ (n ≤ 8) × (i ≤ 63) ⌝ }
+    requires { ⌜ (n ≤ 16) × (i ≤ 255) ⌝ }
 {
     let left = 2 * n;
     if left <= i {
-        return ((100 + 10 * (i - left)) % 256) as u8;
+        return ((100 + rise(n, i - left)) % 256) as u8;
     }
     if i + 1 == left {
-        return ((10 + 10 * i + end as usize) % 256) as u8;
+        return ((10 + rise(n, i) + end as usize) % 256) as u8;
     }
-    ((10 + 10 * i) % 256) as u8
+    ((10 + rise(n, i)) % 256) as u8
 }
 
 fn sample(source: Source, n: usize, i: usize, byte: u8) -> u8
-    requires { ⌜ (1 ≤ n) × (n ≤ 8) × (i ≤ 63) ⌝ }
+    requires { ⌜ (1 ≤ n) × (n ≤ 16) × (i ≤ 255) ⌝ }
 {
     match source {
         Source::Bytes => byte,
@@ -78,13 +87,13 @@ fn sample(source: Source, n: usize, i: usize, byte: u8) -> u8
     }
 }
 
-// The first 64 samples: a block or a border takes as many as it needs from the start. A step of the state comes before each.
-pub(crate) fn samples(source: Source, n: usize, seed: u64) -> [u8; 64]
-    requires { ⌜ (1 ≤ n) × (n ≤ 8) ⌝ }
+// The first 256 samples: a block or a border takes as many as it needs from the start. A step of the state comes before each.
+pub(crate) fn samples(source: Source, n: usize, seed: u64) -> [u8; SAMPLES]
+    requires { ⌜ (1 ≤ n) × (n ≤ 16) ⌝ }
 {
-    let mut out = [0u8; 64];
+    let mut out = [0u8; SAMPLES];
     let mut state = Random(seed);
-    for i in 0..64 {
+    for i in 0..SAMPLES {
         state = state.next();
         out[i] = sample(source, n, i, state.byte());
     }

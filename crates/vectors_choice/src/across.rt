@@ -10,17 +10,22 @@ use crate::tables;
 use choice::Best;
 use choice::Choice;
 use pattern::Contoured;
+use pattern::NEIGHBOURS;
+use pattern::Pattern;
+use pattern::SAMPLES;
+use pattern::one_word;
+use wedgelet::LIST_WORDS;
 
 // The samples of a case, each from the start of an array; `texture` says how many texture samples are lent.
 struct Samples {
-    original: [u8; 64],
-    border: [u8; 64],
-    texture: [u8; 64],
+    original: [u8; SAMPLES],
+    border: [u8; SAMPLES],
+    texture: [u8; SAMPLES],
     textured: usize,
 }
 
 fn samples_of(c: Case) -> Samples
-    requires { ⌜ (1 ≤ c .n) × (c .n ≤ 8) × (c .seed ≤ 598) ⌝ }
+    requires { ⌜ (1 ≤ c .n) × (c .n ≤ 16) × (c .seed ≤ 606) ⌝ }
 {
     let original = fills::samples(c.original, c.n, 10000 + c.seed);
     let border = fills::samples(c.border, c.n, 20000 + c.seed);
@@ -35,26 +40,26 @@ fn samples_of(c: Case) -> Samples
 }
 
 // The top run, then the left run.
-fn exchanged(border: [u8; 64], n: usize) -> [u8; 64]
-    requires { ⌜ (1 ≤ n) × (n ≤ 8) ⌝ }
+fn exchanged(border: [u8; SAMPLES], n: usize) -> [u8; SAMPLES]
+    requires { ⌜ (1 ≤ n) × (n ≤ 16) ⌝ }
 {
-    let mut out = [0u8; 64];
-    for i in 0..32 {
+    let mut out = [0u8; SAMPLES];
+    for i in 0..NEIGHBOURS {
         out[i] = border[(i + 2 * n) % (4 * n)];
     }
     out
 }
 
 // The samples of the transposed block.
-fn transposed_block(n: usize, block: &[u8]) -> [u8; 64] {
-    let mut out = [0u8; 64];
+fn transposed_block(n: usize, block: &[u8]) -> [u8; SAMPLES] {
+    let mut out = [0u8; SAMPLES];
     let b = block::transposed(n, block::block_of(n, block));
     block::write_block(n, b, parts::first_mut(&mut out, parts::area(n)));
     out
 }
 
 fn transposed(n: usize, s: Samples) -> Samples
-    requires { ⌜ (1 ≤ n) × (n ≤ 8) ⌝ }
+    requires { ⌜ (1 ≤ n) × (n ≤ 16) ⌝ }
 {
     let area = parts::area(n);
     let original = s.original;
@@ -72,7 +77,7 @@ fn transposed(n: usize, s: Samples) -> Samples
 
 // The chosen record; a record of zeros where the choice is refused.
 fn chosen(c: Case, s: Samples) -> Best
-    requires { ⌜ (1 ≤ c .n) × (c .n ≤ 8) ⌝ }
+    requires { ⌜ (1 ≤ c .n) × (c .n ≤ 16) ⌝ }
 {
     let original = s.original;
     let border = s.border;
@@ -96,23 +101,22 @@ fn chosen(c: Case, s: Samples) -> Best
 }
 
 // The pattern of an entry of the list as built.
-fn entry_pattern(n: usize, entry: u32) -> u64 {
-    let mut list = [0u64; 756];
+fn entry_pattern(n: usize, entry: u32) -> Pattern {
+    let mut list = [0u64; LIST_WORDS];
     lists::build(n, &mut list);
-    let at = entry as usize;
-    if at < 756 { list[at] } else { 0 }
+    pattern::pattern_at(n, &list, entry as usize)
 }
 
-fn contour_pattern(n: usize, texture: &[u8]) -> u64 {
+fn contour_pattern(n: usize, texture: &[u8]) -> Pattern {
     let contoured = pattern::contour(n, texture);
     match contoured {
-        Contoured::Word(word) => word,
-        Contoured::Refused(_) => 0,
+        Contoured::Pattern(p) => p,
+        Contoured::Refused(_) => one_word(0),
     }
 }
 
 // The pattern of a record.
-fn pattern_of(n: usize, best: Best, s: Samples) -> u64 {
+fn pattern_of(n: usize, best: Best, s: Samples) -> Pattern {
     if best.kind == 0 {
         return entry_pattern(n, best.entry);
     }
@@ -120,19 +124,44 @@ fn pattern_of(n: usize, best: Best, s: Samples) -> u64 {
     contour_pattern(n, parts::first(&texture, s.textured))
 }
 
-// The pattern transposed, mark by mark.
-fn turned_word(n: usize, word: u64) -> u64
-    requires { ⌜ (1 ≤ n) × (n ≤ 8) ⌝ }
-{
-    let mut out: u64 = 0;
-    for k in 0..64 {
-        if k < parts::area(n) {
-            if pattern::mark_at(word, k % n * n + k / n) {
-                out = out | (1 << k);
-            }
-        }
+// The place of sample k across the diagonal, for N = 4, 8 and 16.
+fn turned_place(n: usize, k: usize) -> usize {
+    match n {
+        4 => k % 4 * 4 + k / 4,
+        8 => k % 8 * 8 + k / 8,
+        _ => k % 16 * 16 + k / 16,
     }
-    out
+}
+
+// Whether both hold.
+fn both(a: bool, b: bool) -> bool {
+    if a { b } else { false }
+}
+
+// Whether two marks are the same.
+fn same_mark(a: bool, b: bool) -> bool {
+    if a {
+        return b;
+    }
+    !b
+}
+
+// Whether q has at sample k the mark that p has across the diagonal; past the block there is none.
+fn mark_is_turned(n: usize, p: Pattern, q: Pattern, k: usize) -> bool {
+    let mark = pattern::mark_at(q, k);
+    if parts::area(n) <= k {
+        return same_mark(mark, false);
+    }
+    same_mark(mark, pattern::mark_at(p, turned_place(n, k)))
+}
+
+// Whether q is p transposed, mark by mark.
+fn is_turned(n: usize, p: Pattern, q: Pattern) -> bool {
+    let mut turned = true;
+    for k in 0..SAMPLES {
+        turned = both(turned, mark_is_turned(n, p, q, k));
+    }
+    turned
 }
 
 fn same_offsets(a: Best, b: Best) -> bool {
@@ -145,20 +174,20 @@ fn same_offsets(a: Best, b: Best) -> bool {
 
 // Whether the record b, chosen for the transposed samples t, is the partner of a, chosen for the samples s.
 fn are_partners(n: usize, a: Best, s: Samples, b: Best, t: Samples) -> bool
-    requires { ⌜ (1 ≤ n) × (n ≤ 8) ⌝ }
+    requires { ⌜ (1 ≤ n) × (n ≤ 16) ⌝ }
 {
     if a.kind != b.kind {
         return false;
     }
     if same_offsets(a, b) {
-        return pattern_of(n, b, t) == turned_word(n, pattern_of(n, a, s));
+        return is_turned(n, pattern_of(n, a, s), pattern_of(n, b, t));
     }
     false
 }
 
 // Document 01's condition: the runs differ from end to end by unequal amounts, or end on equal samples.
-fn ends_decide(border: [u8; 64], n: usize) -> bool
-    requires { ⌜ (1 ≤ n) × (n ≤ 8) ⌝ }
+fn ends_decide(border: [u8; SAMPLES], n: usize) -> bool
+    requires { ⌜ (1 ≤ n) × (n ≤ 16) ⌝ }
 {
     let left_end = border[2 * n - 1];
     let top_end = border[4 * n - 1];
@@ -188,7 +217,7 @@ fn is_wanted(c: Case) -> bool {
 }
 
 fn line(c: Case, number: usize)
-    requires { ⌜ (1 ≤ c .n) × (c .n ≤ 8) × (c .seed ≤ 598) ⌝ }
+    requires { ⌜ (1 ≤ c .n) × (c .n ≤ 16) × (c .seed ≤ 606) ⌝ }
 {
     let s = samples_of(c);
     let t = transposed(c.n, s);
@@ -204,7 +233,7 @@ fn line(c: Case, number: usize)
 }
 
 fn line_if_wanted(n: usize, number: usize)
-    requires { ⌜ (1 ≤ n) × (n ≤ 8) × (number ≤ 59) ⌝ }
+    requires { ⌜ (1 ≤ n) × (n ≤ 16) × (number ≤ 59) ⌝ }
 {
     let c = choices::case_of(n, number);
     if is_wanted(c) {
@@ -213,7 +242,7 @@ fn line_if_wanted(n: usize, number: usize)
 }
 
 pub(crate) fn lines(n: usize)
-    requires { ⌜ (1 ≤ n) × (n ≤ 8) ⌝ }
+    requires { ⌜ (1 ≤ n) × (n ≤ 16) ⌝ }
 {
     for number in 0..60 {
         line_if_wanted(n, number);

@@ -7,6 +7,7 @@ use crate::parts;
 use crate::tables;
 use choice::Best;
 use choice::Choice;
+use wedgelet::LIST_WORDS;
 
 // The cases in decimal digits: fill of the original, fill of the border, table, reach, fill of the texture, list, fault.
 const CASES: [u64; 60] = [
@@ -86,8 +87,8 @@ pub(crate) struct Case {
 }
 
 pub(crate) fn case_of(n: usize, number: usize) -> Case
-    requires { ⌜ (1 ≤ n) × (n ≤ 8) × (number ≤ 59) ⌝ }
-    ensures { λ r. ⌜ (1 ≤ r .n) × (r .n ≤ 8) × (r .seed ≤ 598) ⌝ }
+    requires { ⌜ (1 ≤ n) × (n ≤ 16) × (number ≤ 59) ⌝ }
+    ensures { λ r. ⌜ (1 ≤ r .n) × (r .n ≤ 16) × (r .seed ≤ 606) ⌝ }
 {
     let digits = CASES[number];
     Case {
@@ -113,10 +114,10 @@ fn lent(length: usize, faulty: bool) -> usize {
     length
 }
 
-// The count given with a list of so many words.
-fn count_of(list: usize, words: usize) -> usize {
+// The count given with a list; `built` is that of the list as built.
+fn count_of(list: usize, built: usize) -> usize {
     match list {
-        0 => words,
+        0 => built,
         1 => 0,
         2 | 5 => 1,
         3 | 4 => 2,
@@ -124,8 +125,8 @@ fn count_of(list: usize, words: usize) -> usize {
     }
 }
 
-// The words of the lists 3 to 7.
-fn own_words(list: usize, n: usize) -> [u64; 3] {
+// The first words of the patterns of the lists 3 to 7.
+fn first_words(list: usize, n: usize) -> [u64; 3] {
     let all = lists::all_bits(n);
     match list {
         3 => [0, all, 0],
@@ -135,22 +136,62 @@ fn own_words(list: usize, n: usize) -> [u64; 3] {
     }
 }
 
-// The choice with a list of words.
+// The other words of the second pattern of these lists: it has all marks, or all but the first, in the lists 3 and 7.
+fn other_word(list: usize) -> u64 {
+    match list {
+        3 | 7 => lists::FULL,
+        _ => 0,
+    }
+}
+
+// The words of the lists 3 to 7, from the start of an array: one a pattern, for N = 16 four.
+fn own_words(list: usize, n: usize) -> [u64; 12] {
+    let first = first_words(list, n);
+    let other = other_word(list);
+    if n == 16 {
+        return [
+            first[0],
+            0,
+            0,
+            0,
+            first[1],
+            other,
+            other,
+            other,
+            first[2],
+            0,
+            0,
+            0,
+        ];
+    }
+    [first[0], first[1], first[2], 0, 0, 0, 0, 0, 0, 0, 0, 0]
+}
+
+// The number of these words: list 7 has three patterns, the others have two.
+fn own_length(list: usize, n: usize) -> usize {
+    if n == 16 {
+        return if list == 7 { 12 } else { 8 };
+    }
+    if list == 7 { 3 } else { 2 }
+}
+
+// The choice with a list of words; `built` is the count of the list as built.
 fn with_list(
     c: Case,
     list: &[u64],
+    built: usize,
     border: &[u8],
     original: &[u8],
     table: &[u8],
     texture: &[u8],
 ) -> Choice
-    requires { ⌜ c .n ≤ 8 ⌝ }
+    requires { ⌜ c .n ≤ 16 ⌝ }
 {
     let n = if c.fault == 4 { c.n + 1 } else { c.n };
     choice::choose(
         n,
         list,
-        count_of(c.list, list.len()),
+        count_of(c.list, built),
         border,
         original,
         table,
@@ -161,35 +202,28 @@ fn with_list(
 
 // The choice with the list as built, or one of the lists 3 to 7.
 fn with_table(c: Case, border: &[u8], original: &[u8], table: &[u8], texture: &[u8]) -> Choice
-    requires { ⌜ c .n ≤ 8 ⌝ }
+    requires { ⌜ c .n ≤ 16 ⌝ }
 {
     if 2 < c.list {
         let own = own_words(c.list, c.n);
-        let length = if c.list == 7 { 3 } else { 2 };
         return with_list(
             c,
-            parts::words(&own, length),
+            parts::words(&own, own_length(c.list, c.n)),
+            0,
             border,
             original,
             table,
             texture,
         );
     }
-    let mut list = [0u64; 756];
-    let count = lists::build(c.n, &mut list);
-    with_list(
-        c,
-        parts::words(&list, count),
-        border,
-        original,
-        table,
-        texture,
-    )
+    let mut list = [0u64; LIST_WORDS];
+    let built = lists::build(c.n, &mut list);
+    with_list(c, &list, built, border, original, table, texture)
 }
 
 // The choice with the case's table.
 pub(crate) fn chosen(c: Case, border: &[u8], original: &[u8], texture: &[u8]) -> Choice
-    requires { ⌜ c .n ≤ 8 ⌝ }
+    requires { ⌜ c .n ≤ 16 ⌝ }
 {
     let values = tables::values(c.table);
     let table = parts::first(&values, tables::count(c.table));
@@ -198,7 +232,7 @@ pub(crate) fn chosen(c: Case, border: &[u8], original: &[u8], texture: &[u8]) ->
 
 // The choice with the case's texture: fill 15 is none.
 fn with_texture(c: Case, border: &[u8], original: &[u8]) -> Choice
-    requires { ⌜ (1 ≤ c .n) × (c .n ≤ 8) × (c .seed ≤ 598) ⌝ }
+    requires { ⌜ (1 ≤ c .n) × (c .n ≤ 16) × (c .seed ≤ 606) ⌝ }
 {
     let bytes = fills::samples(c.texture, c.n, 30000 + c.seed);
     let length = if c.texture == 15 {
@@ -225,7 +259,7 @@ fn answer(choice: Choice) {
 }
 
 fn line(n: usize, number: usize)
-    requires { ⌜ (1 ≤ n) × (n ≤ 8) × (number ≤ 59) ⌝ }
+    requires { ⌜ (1 ≤ n) × (n ≤ 16) × (number ≤ 59) ⌝ }
 {
     let c = case_of(n, number);
     let original = fills::samples(c.original, n, 10000 + c.seed);
@@ -240,7 +274,7 @@ fn line(n: usize, number: usize)
 }
 
 pub(crate) fn lines(n: usize)
-    requires { ⌜ (1 ≤ n) × (n ≤ 8) ⌝ }
+    requires { ⌜ (1 ≤ n) × (n ≤ 16) ⌝ }
 {
     for number in 0..60 {
         line(n, number);

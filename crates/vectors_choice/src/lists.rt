@@ -1,4 +1,4 @@
-// The wedgelet list, and the word of all marks.
+// The wedgelet list, and the words of all marks.
 ghost use Prim.Native.Nat.{_≤_};
 use wedgelet::Listed;
 
@@ -11,13 +11,12 @@ pub(crate) fn build(n: usize, list: &mut [u64]) -> usize {
     }
 }
 
-// All N * N bits.
+// A word of all bits.
+pub(crate) const FULL: u64 = 0xFFFF_FFFF_FFFF_FFFF;
+
+// The first word of all N * N marks.
 pub(crate) fn all_bits(n: usize) -> u64
     ensures { λ r. ⌜ 1 ≤ r ⌝ }
 {
-    if n == 4 {
-        0xFFFF
-    } else {
-        0xFFFF_FFFF_FFFF_FFFF
-    }
+    if n == 4 { 0xFFFF } else { FULL }
 }

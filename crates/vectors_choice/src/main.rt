@@ -11,6 +11,8 @@ mod tables;
 fn main() {
     choices::lines(4);
     choices::lines(8);
+    choices::lines(16);
     across::lines(4);
     across::lines(8);
+    across::lines(16);
 }

@@ -1,8 +1,12 @@
 // Parts of slices: as many elements from the start as a case asks for.
 
-// The samples of a block, N * N, for N = 4 and 8.
+// The samples of a block, N * N, for N = 4, 8 and 16.
 pub(crate) fn area(n: usize) -> usize {
-    if n == 4 { 16 } else { 64 }
+    match n {
+        4 => 16,
+        8 => 64,
+        _ => 256,
+    }
 }
 
 // The first k bytes, or all of them where there are fewer.

@@ -5,10 +5,10 @@ use Rattle.sheet_vectors.proofs.place_refusals.print.Statement.{stateme
 use Rattle.sheet_vectors.proofs.place_refusals.print.Tie as tie
 
 abbrev Inv-loop : tie.InvT-loop
-Inv-loop case₀ case = case ≤ 23
+Inv-loop case₀ case = case ≤ 26
 
 abbrev μ-loop : tie.MeasureT-loop
-μ-loop case₀ case = 23 - case
+μ-loop case₀ case = 26 - case
 
 loop-holds : tie.Need-loop-holds Inv-loop μ-loop
 loop-holds c = search needs

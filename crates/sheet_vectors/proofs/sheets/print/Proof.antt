@@ -5,10 +5,10 @@ use Rattle.sheet_vectors.proofs.sheets.print.Statement.{statement}
 use Rattle.sheet_vectors.proofs.sheets.print.Tie as tie
 
 abbrev Inv-loop : tie.InvT-loop
-Inv-loop number₀ number = number ≤ 27
+Inv-loop number₀ number = number ≤ 35
 
 abbrev μ-loop : tie.MeasureT-loop
-μ-loop number₀ number = 27 - number
+μ-loop number₀ number = 35 - number
 
 loop-holds : tie.Need-loop-holds Inv-loop μ-loop
 loop-holds c = search needs

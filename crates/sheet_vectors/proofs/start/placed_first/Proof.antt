@@ -7,10 +7,10 @@ use Rattle.sheet_vectors.proofs.start.placed_first.Statement.{statement
 use Rattle.sheet_vectors.proofs.start.placed_first.Tie as tie
 
 abbrev Inv-loop : tie.InvT-loop
-Inv-loop samples₀ list table texture k state₀ i₀ samples state i = (i ≤ k) × (length samples ≡ length samples₀)
+Inv-loop samples₀ list count table texture k state₀ i₀ samples state i = (i ≤ k) × (length samples ≡ length samples₀)
 
 abbrev μ-loop : tie.MeasureT-loop
-μ-loop samples₀ list table texture k state₀ i₀ samples state i = k - i
+μ-loop samples₀ list count table texture k state₀ i₀ samples state i = k - i
 
 loop-holds : tie.Need-loop-holds Inv-loop μ-loop
 loop-holds c = search needs

@@ -5,10 +5,10 @@ use Rattle.vectors.proofs.samples.samples.Statement.{statement}
 use Rattle.vectors.proofs.samples.samples.Tie as tie
 
 abbrev Inv-loop : tie.InvT-loop
-Inv-loop source n seed out₀ state₀ i₀ out state i = i ≤ 64
+Inv-loop source n seed out₀ state₀ i₀ out state i = i ≤ 256
 
 abbrev μ-loop : tie.MeasureT-loop
-μ-loop source n seed out₀ state₀ i₀ out state i = 64 - i
+μ-loop source n seed out₀ state₀ i₀ out state i = 256 - i
 
 loop-holds : tie.Need-loop-holds Inv-loop μ-loop
 loop-holds c = search needs

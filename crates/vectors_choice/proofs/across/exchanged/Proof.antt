@@ -1,4 +1,4 @@
--- `exchanged` is safe and ends: a remainder by 4n is below 32. Assumes nothing.
+-- `exchanged` is safe and ends: a remainder by 4n is below 64. Assumes nothing.
 use Prim.Native.Nat.{_+_, _-_, _*_, _≤_, _<_}
 use native.Mathlib.Nat.{mod-lt}
 use native.Mathlib.Omega.{arith}
@@ -7,10 +7,10 @@ use Rattle.vectors_choice.proofs.across.exchanged.Statement.{statement}
 use Rattle.vectors_choice.proofs.across.exchanged.Tie as tie
 
 abbrev Inv-loop : tie.InvT-loop
-Inv-loop n border out₀ i₀ out i = i ≤ 32
+Inv-loop n border out₀ i₀ out i = i ≤ 64
 
 abbrev μ-loop : tie.MeasureT-loop
-μ-loop n border out₀ i₀ out i = 32 - i
+μ-loop n border out₀ i₀ out i = 64 - i
 
 loop-holds : tie.Need-loop-holds Inv-loop μ-loop
 loop-holds c = search needs
