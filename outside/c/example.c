@@ -23,8 +23,9 @@ int main(void) {
 
     depth_bench_choice best = depth_bench_choose(8, border, sizeof border, original, sizeof original, table, sizeof table, 5, NULL, 0);
     depth_bench_pattern pattern = depth_bench_pattern_of(8, best.kind, best.entry, NULL, 0);
-    depth_bench_prediction made = depth_bench_predict(8, pattern.word[0], border, sizeof border, table, sizeof table, best.off0, best.off1,
-        predicted, sizeof predicted);
+    const uint64_t *word = pattern.word;
+    depth_bench_prediction made = depth_bench_predict(8, word[0], word[1], word[2], word[3], border, sizeof border, table, sizeof table,
+        best.off0, best.off1, predicted, sizeof predicted);
     if (best.refusal != 0 || pattern.refusal != 0 || made.refusal != 0) {
         printf("refusals %u, %u and %u\n", best.refusal, pattern.refusal, made.refusal);
         return 1;
@@ -33,7 +34,7 @@ int main(void) {
     int sum = 0;
     for (int i = 0; i < 64; i++) sum += abs(predicted[i] - original[i]);
     printf("kind %u, entry %u, offsets %d and %d, cost %u\n", best.kind, best.entry, best.off0, best.off1, best.cost);
-    printf("pattern %016llx, %u samples marked, differences %d\n\n", (unsigned long long)pattern.word[0], made.marks, sum);
+    printf("pattern %016llx, %u samples marked, differences %d\n\n", (unsigned long long)word[0], made.marks, sum);
     printf("original    predicted\n");
     for (int y = 0; y < 8; y++) {
         print_row(original + 8 * y);

@@ -1,22 +1,32 @@
-/* The edge list and the choice by the bench's own method, in C, to compare speeds with; for sound input only. Once a block: the index of
-   the depth in each of the eight cases, the word of the samples below each value, and the bit planes of the samples. A side's cost is convex
-   in the value, so the turn along the table is found by halving, and the best level is there or one step further. */
+/* The edge list and the choice by the bench's own method, in C, to compare speeds with; for sound input only. A choice, once a block: the
+   index of the depth in each of the eight cases, the pattern of the samples below each value, and the bit planes of the samples. A side's
+   cost is convex in the value, so the turn along the table is found by halving, and the best level is there or one step further. The list:
+   the marks of a row are a prefix or a suffix of it, and an equal entry is looked for among those with as many marks. Each is compiled for
+   patterns of one word and of four. */
 #include "fast.h"
 
-typedef struct { uint64_t below[257], planes[8]; size_t index[8]; } prepared;
+#define INLINE static inline __attribute__((always_inline))
+
+typedef struct { uint64_t below[257][4], planes[8][4]; size_t index[8]; } prepared;
 typedef struct { size_t number; uint32_t cost; } trial;
 
 /* No popcnt instruction, as in the library. */
-static inline uint32_t ones(uint64_t w) {
+INLINE uint32_t ones_of_word(uint64_t w) {
     w -= w >> 1 & 0x5555555555555555u;
     w = (w & 0x3333333333333333u) + (w >> 2 & 0x3333333333333333u);
     w = (w + (w >> 4)) & 0x0F0F0F0F0F0F0F0Fu;
     return (uint32_t)(w * 0x0101010101010101u >> 56);
 }
 
-static inline size_t mark(uint64_t word, size_t k) { return word >> k & 1; }
+INLINE uint32_t ones(size_t words, const uint64_t *part) {
+    uint32_t sum = 0;
+    for (size_t k = 0; k < words; k++) sum += ones_of_word(part[k]);
+    return sum;
+}
 
-static inline uint32_t apart(uint32_t a, uint32_t b) { return a < b ? b - a : a - b; }
+INLINE size_t mark(const uint64_t *pattern, size_t i) { return pattern[i / 64] >> i % 64 & 1; }
+
+INLINE uint32_t apart(uint32_t a, uint32_t b) { return a < b ? b - a : a - b; }
 
 static size_t index_of(const uint8_t *table, size_t len, uint32_t depth) {
     size_t best = 0;
@@ -33,73 +43,89 @@ static uint32_t case_depth(size_t n, const uint8_t *left, size_t k) {
         : apart(left[0], left[end]) > apart(top[0], top[end]) ? left[end] : top[end];
 }
 
-static void prepare(prepared *p, size_t n, const uint8_t *border, const uint8_t *original, const uint8_t *table, size_t table_len) {
-    uint64_t equal[256] = { 0 };
-    for (size_t k = 0; k < n * n; k++) equal[original[k]] |= (uint64_t)1 << k;
-    p->below[0] = 0;
-    for (size_t v = 0; v < 256; v++) p->below[v + 1] = p->below[v] + equal[v];
+INLINE void prepare(size_t words, prepared *p, size_t n, const uint8_t *border, const uint8_t *original, const uint8_t *table,
+    size_t table_len) {
+    for (size_t v = 0; v < 257; v++) for (size_t w = 0; w < words; w++) p->below[v][w] = 0;
+    for (size_t i = 0; i < n * n; i++) p->below[original[i] + 1][i / 64] |= (uint64_t)1 << i % 64;
+    for (size_t v = 0; v < 256; v++) for (size_t w = 0; w < words; w++) p->below[v + 1][w] |= p->below[v][w];
     for (size_t b = 0; b < 8; b++) {
-        p->planes[b] = 0;
-        for (size_t k = 0; k < n * n; k++) p->planes[b] |= (uint64_t)(original[k] >> (7 - b) & 1) << k;
+        for (size_t w = 0; w < words; w++) p->planes[b][w] = 0;
+        for (size_t i = 0; i < n * n; i++) p->planes[b][i / 64] |= (uint64_t)(original[i] >> (7 - b) & 1) << i % 64;
         p->index[b] = index_of(table, table_len, case_depth(n, border, b));
     }
 }
 
-static inline uint32_t count_below(const prepared *p, uint64_t part, size_t v) { return ones(part & p->below[v]); }
+INLINE uint32_t count_below(size_t words, const prepared *p, const uint64_t *part, size_t v) {
+    uint32_t sum = 0;
+    for (size_t w = 0; w < words; w++) sum += ones_of_word(part[w] & p->below[v][w]);
+    return sum;
+}
 
-static uint32_t cost_at(const prepared *p, uint64_t part, uint32_t size, uint32_t v) {
-    uint32_t sum = 0, count = count_below(p, part, v);
-    for (size_t b = 0; b < 8; b++) sum = 2 * sum + ones(part & (p->planes[b] ^ p->below[v]));
+INLINE uint32_t cost_at(size_t words, const prepared *p, const uint64_t *part, uint32_t size, uint32_t v) {
+    uint32_t sum = 0, count = count_below(words, p, part, v);
+    for (size_t b = 0; b < 8; b++) {
+        uint32_t differ = 0;
+        for (size_t w = 0; w < words; w++) differ += ones_of_word(part[w] & (p->planes[b][w] ^ p->below[v][w]));
+        sum = 2 * sum + differ;
+    }
     return sum + 2 * v * count - (255 * count + v * size);
 }
 
 /* The last index of low .. high - 1, or low, of whose value plus `plus` less than half of the limit is below. */
-static size_t turn(const prepared *p, uint64_t part, uint32_t limit, const uint8_t *table, size_t plus, size_t low, size_t high) {
+INLINE size_t turn(size_t words, const prepared *p, const uint64_t *part, uint32_t limit, const uint8_t *table, size_t plus, size_t low,
+    size_t high) {
     while (low + 1 < high) {
         size_t middle = (low + high) / 2;
-        if (2 * count_below(p, part, table[middle] + plus) < limit) low = middle; else high = middle;
+        if (2 * count_below(words, p, part, table[middle] + plus) < limit) low = middle; else high = middle;
     }
     return low;
 }
 
 /* The better of two levels; where they are next to each other as values the farther costs less. */
-static trial better(const prepared *p, uint64_t part, uint32_t size, uint32_t near, size_t near_number, uint32_t far, size_t far_number) {
-    trial best = { far_number, cost_at(p, part, size, far) };
+INLINE trial better(size_t words, const prepared *p, const uint64_t *part, uint32_t size, uint32_t near, size_t near_number, uint32_t far,
+    size_t far_number) {
+    trial best = { far_number, cost_at(words, p, part, size, far) };
     if (near + 1 == far || far + 1 == near) return best;
-    uint32_t cost = cost_at(p, part, size, near);
+    uint32_t cost = cost_at(words, p, part, size, near);
     return best.cost < cost ? best : (trial){ near_number, cost };
 }
 
-static trial best_of_part(const prepared *p, uint64_t part, const uint8_t *table, size_t len, size_t at, size_t reach) {
-    uint32_t size = ones(part);
+INLINE trial best_of_part(size_t words, const prepared *p, const uint64_t *part, const uint8_t *table, size_t len, size_t at,
+    size_t reach) {
+    uint32_t size = ones(words, part);
     size_t last = reach < len - 1 - at ? at + reach : len - 1, end = reach < at ? at - reach : 0;
-    if (at < last && 2 * count_below(p, part, table[at] + 1u) < size) {
-        size_t low = turn(p, part, size, table, 1, at, last);
-        return better(p, part, size, table[low], 2 * (low - at), table[low + 1], 2 * (low + 1 - at));
+    if (at < last && 2 * count_below(words, p, part, table[at] + 1u) < size) {
+        size_t low = turn(words, p, part, size, table, 1, at, last);
+        return better(words, p, part, size, table[low], 2 * (low - at), table[low + 1], 2 * (low + 1 - at));
     }
-    if (end < at && size < 2 * count_below(p, part, table[at])) {
-        size_t low = turn(p, part, size + 1, table, 0, end, at), near = at - low - 1;
-        return better(p, part, size, table[low + 1], near == 0 ? 0 : 2 * near - 1, table[low], 2 * (at - low) - 1);
+    if (end < at && size < 2 * count_below(words, p, part, table[at])) {
+        size_t low = turn(words, p, part, size + 1, table, 0, end, at), near = at - low - 1;
+        return better(words, p, part, size, table[low + 1], near == 0 ? 0 : 2 * near - 1, table[low], 2 * (at - low) - 1);
     }
-    return (trial){ 0, cost_at(p, part, size, table[at]) };
+    return (trial){ 0, cost_at(words, p, part, size, table[at]) };
 }
 
 static int32_t offset_of(size_t t) { return t % 2 == 0 ? (int32_t)(t / 2) : -1 - (int32_t)(t / 2); }
 
-depth_bench_choice fast_choose(size_t n, const uint64_t *list, size_t count, const uint8_t *border, const uint8_t *original,
-    const uint8_t *table, size_t table_len, uint32_t reach, const uint8_t *texture) {
+static void contour_of(size_t n, const uint8_t *texture, uint64_t contour[4]) {
+    uint32_t sum = 0;
+    for (size_t i = 0; i < n * n; i++) sum += texture[i];
+    for (size_t i = 0; i < n * n; i++) if (texture[i] > sum / (n * n)) contour[i / 64] |= (uint64_t)1 << i % 64;
+}
+
+INLINE depth_bench_choice choose(size_t words, size_t n, const uint64_t *list, size_t count, const uint8_t *border,
+    const uint8_t *original, const uint8_t *table, size_t table_len, uint32_t reach, const uint8_t *texture) {
     prepared p;
     depth_bench_choice best = { 0, 0, 0, 0, 0, UINT32_MAX };
-    uint64_t contour = 0;
-    uint32_t sum = 0;
-    prepare(&p, n, border, original, table, table_len);
-    for (size_t i = 0; texture != NULL && i < n * n; i++) sum += texture[i];
-    for (size_t i = 0; texture != NULL && i < n * n; i++) if (texture[i] > sum / (n * n)) contour |= (uint64_t)1 << i;
+    uint64_t contour[4] = { 0, 0, 0, 0 }, rest[4];
+    prepare(words, &p, n, border, original, table, table_len);
+    if (texture != NULL) contour_of(n, texture, contour);
     for (size_t k = 0; k < count + (texture != NULL); k++) {
-        uint64_t word = k < count ? list[k] : contour;
-        size_t origin = mark(word, 0), edges = 2 * (origin ^ mark(word, n - 1)) + (origin ^ mark(word, (n - 1) * n));
-        trial unmarked = best_of_part(&p, p.below[256] - word, table, table_len, p.index[4 * origin + edges], reach);
-        trial marked = best_of_part(&p, word, table, table_len, p.index[4 * !origin + edges], reach);
+        const uint64_t *pattern = k < count ? list + words * k : contour;
+        size_t origin = mark(pattern, 0), edges = 2 * (origin ^ mark(pattern, n - 1)) + (origin ^ mark(pattern, (n - 1) * n));
+        for (size_t w = 0; w < words; w++) rest[w] = p.below[256][w] - pattern[w];
+        trial unmarked = best_of_part(words, &p, rest, table, table_len, p.index[4 * origin + edges], reach);
+        trial marked = best_of_part(words, &p, pattern, table, table_len, p.index[4 * !origin + edges], reach);
         if (unmarked.cost + marked.cost < best.cost)
             best = (depth_bench_choice){ 0, k >= count, k < count ? (uint32_t)k : 0, offset_of(unmarked.number), offset_of(marked.number),
                 unmarked.cost + marked.cost };
@@ -107,33 +133,65 @@ depth_bench_choice fast_choose(size_t n, const uint64_t *list, size_t count, con
     return best;
 }
 
-static size_t point_x(size_t n, size_t k) {
-    size_t m = n - 1;
-    return k < m ? k : k < 2 * m ? m : k < 3 * m ? 3 * m - k : 0;
+depth_bench_choice fast_choose(size_t n, const uint64_t *list, size_t count, const uint8_t *border, const uint8_t *original,
+    const uint8_t *table, size_t table_len, uint32_t reach, const uint8_t *texture) {
+    return n == 16 ? choose(4, n, list, count, border, original, table, table_len, reach, texture)
+        : choose(1, n, list, count, border, original, table, table_len, reach, texture);
 }
 
-static size_t point_y(size_t n, size_t k) {
-    size_t m = n - 1;
-    return k < m ? 0 : k < 2 * m ? k - m : k < 3 * m ? m : k < 4 * m ? 4 * m - k : 0;
+/* Border point k, clockwise from (0,0). */
+static void point(int32_t n, int32_t k, int32_t *x, int32_t *y) {
+    int32_t m = n - 1;
+    *x = k < m ? k : k < 2 * m ? m : k < 3 * m ? 3 * m - k : 0;
+    *y = k < m ? 0 : k < 2 * m ? k - m : k < 3 * m ? m : 4 * m - k;
 }
 
-static uint64_t word_of(size_t n, size_t s, size_t e) {
-    size_t xs = point_x(n, s), ys = point_y(n, s), xe = point_x(n, e), ye = point_y(n, e);
-    uint64_t word = 0;
-    for (size_t i = 0; i < n * n; i++) {
-        size_t x = i % n, y = i / n;
-        word |= (uint64_t)(ys * xe + ye * x + y * xs < xs * ye + xe * y + x * ys) << i;
+/* The marks of a row of n samples: those with `down` * x < `limit`. */
+INLINE uint64_t row_marks(int32_t n, int32_t down, int32_t limit) {
+    uint32_t all = ((uint32_t)1 << n) - 1;
+    if (down == 0) return limit > 0 ? all : 0;
+    if (down > 0) {
+        uint32_t first = limit <= 0 ? 0 : ((uint32_t)limit - 1) / (uint32_t)down + 1;
+        return first >= (uint32_t)n ? all : ((uint32_t)1 << first) - 1;
     }
-    return word & 1 ? (UINT64_MAX >> (64 - n * n)) - word : word;
+    uint32_t from = limit > 0 ? 0 : (uint32_t)-limit / (uint32_t)-down + 1;
+    return from >= (uint32_t)n ? 0 : all >> from << from;
 }
 
-size_t fast_list(size_t n, uint64_t *list) {
-    size_t last = 4 * (n - 1), count = 0;
-    for (size_t s = 0; s < last; s++) for (size_t e = 0; e < last; e++) {
-        uint64_t word = e == s ? 0 : word_of(n, s, e);
-        size_t k = 0;
-        while (k < count && list[k] != word) k++;
-        if (word != 0 && k == count) list[count++] = word;
+INLINE void candidate(size_t words, int32_t n, int32_t s, int32_t e, uint64_t *pattern) {
+    int32_t xs, ys, xe, ye, rows = 64 / n;
+    point(n, s, &xs, &ys);
+    point(n, e, &xe, &ye);
+    int32_t right = xe - xs, down = ye - ys, limit = down * xs - right * ys;
+    uint64_t turned = limit > 0 ? ((uint64_t)1 << n) - 1 : 0;
+    for (size_t w = 0; w < words; w++) pattern[w] = 0;
+    for (int32_t y = 0; y < n; y++, limit += right)
+        pattern[words == 1 ? 0 : y / rows] |= (row_marks(n, down, limit) ^ turned) << (words == 1 ? y : y % rows) * n;
+}
+
+INLINE int equal(size_t words, const uint64_t *a, const uint64_t *b) {
+    for (size_t k = 0; k < words; k++) if (a[k] != b[k]) return 0;
+    return 1;
+}
+
+INLINE size_t build(size_t words, size_t n, uint64_t *list) {
+    uint16_t first[257] = { 0 }, next[3541];
+    size_t count = 0;
+    int32_t points = 4 * (int32_t)n - 4;
+    for (int32_t s = 0; s < points; s++) for (int32_t e = 0; e < points; e++) {
+        uint64_t pattern[4];
+        candidate(words, (int32_t)n, s, e, pattern);
+        uint32_t marks = ones(words, pattern);
+        if (marks == 0) continue;
+        size_t k = first[marks];
+        while (k != 0 && !equal(words, list + words * (k - 1), pattern)) k = next[k];
+        if (k != 0) continue;
+        for (size_t w = 0; w < words; w++) list[words * count + w] = pattern[w];
+        count++;
+        next[count] = first[marks];
+        first[marks] = (uint16_t)count;
     }
     return count;
 }
+
+size_t fast_list(size_t n, uint64_t *list) { return n == 16 ? build(4, n, list) : build(1, n, list); }

@@ -10,7 +10,7 @@
 
 enum { PREDICT, CHOOSE, PATTERN, CALLS };
 
-typedef struct { size_t n; uint64_t word; int32_t off0, off1; slice border, table, block; int null; } predict_case;
+typedef struct { size_t n; uint64_t word[4]; int32_t off0, off1; slice border, table, block; int null; } predict_case;
 typedef struct { size_t n; uint32_t reach; slice border, original, table, texture; int null; } choose_case;
 typedef struct { size_t n; uint32_t kind, entry; slice texture; int null; } pattern_case;
 
@@ -50,26 +50,20 @@ static int same_pattern(depth_bench_pattern a, depth_bench_pattern b) {
     return a.refusal == b.refusal && memcmp(a.word, b.word, sizeof a.word) == 0;
 }
 
-static uint64_t any_word(size_t n) {
-    uint64_t all = n == 4 ? 0xFFFF : UINT64_MAX;
-    switch (below(8)) {
-    case 0: return 0;
-    case 1: return all;
-    case 2: return random_word();
-    case 3: return (random_word() & random_word()) & all;
-    case 4: return ((uint64_t)1 << below(n == 4 ? 16 : 64));
-    default: return random_word() & all;
-    }
+static void show_words(const uint64_t word[4]) {
+    for (int k = 0; k < 4; k++) printf(" %016llx", (unsigned long long)word[k]);
+    printf("\n");
 }
 
 /* One prediction, compared with the judge's. */
 static int predict_differs(predict_case *c) {
     predict_case was = *c;
     slice expected = c->block;
-    depth_bench_prediction want = judge_predict(c->n, c->word, start_of(&c->border), c->border.len, start_of(&c->table), c->table.len,
-        c->off0, c->off1, start_of(&expected), expected.len);
-    depth_bench_prediction got = depth_bench_predict(c->n, c->word, lent(&c->border, c->null), c->border.len, lent(&c->table, c->null),
-        c->table.len, c->off0, c->off1, lent(&c->block, c->null), c->block.len);
+    const uint64_t *w = c->word;
+    depth_bench_prediction want = judge_predict(c->n, w[0], w[1], w[2], w[3], start_of(&c->border), c->border.len, start_of(&c->table),
+        c->table.len, c->off0, c->off1, start_of(&expected), expected.len);
+    depth_bench_prediction got = depth_bench_predict(c->n, w[0], w[1], w[2], w[3], lent(&c->border, c->null), c->border.len,
+        lent(&c->table, c->null), c->table.len, c->off0, c->off1, lent(&c->block, c->null), c->block.len);
     seen[PREDICT][want.refusal]++;
     const char *what = got.refusal != want.refusal || got.marks != want.marks ? "predict: another answer"
         : !same_slice(&c->block, &expected) ? "predict: another block"
@@ -77,7 +71,8 @@ static int predict_differs(predict_case *c) {
         : want.refusal != 0 && !same_slice(&c->block, &was.block) ? "predict: a refusal altered the block" : NULL;
     if (what == NULL) return 0;
     differ(what);
-    printf("  n %zu word %016llx off0 %d off1 %d\n", c->n, (unsigned long long)c->word, c->off0, c->off1);
+    printf("  n %zu off0 %d off1 %d words", c->n, c->off0, c->off1);
+    show_words(c->word);
     printf("  refusal %u marks %u, expected %u %u\n", got.refusal, got.marks, want.refusal, want.marks);
     show("border", &was.border); show("table", &was.table); show("block", &c->block); show("expected", &expected);
     return 1;
@@ -86,9 +81,9 @@ static int predict_differs(predict_case *c) {
 /* A prediction for blocks of n by n; once in `times` each slice and each offset is damaged. */
 static predict_case any_prediction(size_t n, uint32_t times) {
     predict_case c;
-    size_t side = n == 4 ? 4 : 8;
+    size_t side = side_for(n);
     c.n = n;
-    c.word = any_word(n);
+    any_pattern(n, c.word);
     c.off0 = any_offset(times);
     c.off1 = any_offset(times);
     c.null = below(2) == 1;
@@ -98,8 +93,10 @@ static predict_case any_prediction(size_t n, uint32_t times) {
     return c;
 }
 
+/* One prediction in eight has a pattern of the wedgelet list. */
 static int predict_once(void) {
     predict_case c = any_prediction(any_size(12), 12);
+    if (seldom(8)) memcpy(c.word, judge_pattern_of(c.n, 0, below(wedgelets_for(c.n)), start_of(&c.table), 0).word, sizeof c.word);
     return predict_differs(&c);
 }
 
@@ -117,8 +114,7 @@ static int pattern_differs(pattern_case *c) {
     for (int i = 0; i < 2; i++) {
         const depth_bench_pattern *p = i == 0 ? &got : &want;
         printf("  %s %u:", i == 0 ? "got     " : "expected", p->refusal);
-        for (int k = 0; k < 4; k++) printf(" %016llx", (unsigned long long)p->word[k]);
-        printf("\n");
+        show_words(p->word);
     }
     show("texture", &was);
     return 1;
@@ -131,10 +127,10 @@ static uint32_t any_kind(void) {
 
 /* An entry: 0, one of the list, about its end, or far past it. */
 static uint32_t any_entry(size_t n) {
-    uint32_t count = n == 4 ? 74 : 498;
+    uint32_t count = wedgelets_for(n);
     switch (below(8)) {
     case 0: return count - 1 + below(3);
-    case 1: return below(800);
+    case 1: return below(4000);
     case 2: return seldom(2) ? UINT32_MAX - below(2) : (uint32_t)random_word();
     case 3: case 4: return below(count);
     default: return 0;
@@ -147,15 +143,15 @@ static int pattern_once(void) {
     c.kind = any_kind();
     c.entry = any_entry(c.n);
     c.null = below(2) == 1;
-    size_t side = c.n == 4 ? 4 : 8;
+    size_t side = side_for(c.n);
     fill_samples(&c.texture, seldom(4) ? 0 : length_near(side * side, 10));
     return pattern_differs(&c);
 }
 
-/* Every entry of both lists, up to the first that the judge refuses. */
+/* Every entry of each list, up to the first that the judge refuses. */
 static int patterns_of_lists(void) {
     part = "lists";
-    for (size_t n = 4; n <= 8; n += 4) {
+    for (size_t n = 4; n <= 16; n *= 2) {
         pattern_case c = { .n = n, .null = 1 };
         unsigned long refused = seen[PATTERN][6];
         for (number = 0; seen[PATTERN][6] == refused; number++) {
@@ -169,13 +165,14 @@ static int patterns_of_lists(void) {
 
 /* Sizes, lengths, kinds and entries, sound and wrong, each with each: where several are wrong, the first check answers. */
 static int patterns_in_order(void) {
-    static const size_t sizes[] = { 4, 8, 0, 3, 5, 16, ((size_t)1 << 32) + 4, ((size_t)1 << 32) + 8, (size_t)1 << 63, SIZE_MAX };
-    static const size_t lengths[] = { 0, 1, 15, 16, 17, 63, 64, 65, 256 };
-    static const uint32_t kinds[] = { 0, 1, 2, 256, 257, UINT32_MAX }, entries[] = { 0, 1, 74, 498, 65536, UINT32_MAX };
+    static const size_t sizes[] = { 4, 8, 16, 0, 3, 5, 12, 32, ((size_t)1 << 32) + 4, ((size_t)1 << 32) + 8, ((size_t)1 << 32) + 16,
+        (size_t)1 << 63, SIZE_MAX };
+    static const size_t lengths[] = { 0, 1, 15, 16, 17, 63, 64, 65, 144, 255, 256, 257 };
+    static const uint32_t kinds[] = { 0, 1, 2, 256, 257, UINT32_MAX }, entries[] = { 0, 1, 74, 498, 2498, 65536, UINT32_MAX };
     pattern_case c;
-    part = "order";
+    part = "order of patterns";
     number = 0;
-    for (int s = 0; s < 10; s++) for (int l = 0; l < 9; l++) for (int k = 0; k < 6; k++) for (int e = 0; e < 6; e++) {
+    for (int s = 0; s < 13; s++) for (int l = 0; l < 12; l++) for (int k = 0; k < 6; k++) for (int e = 0; e < 7; e++) {
         c.n = sizes[s];
         c.kind = kinds[k];
         c.entry = entries[e];
@@ -187,6 +184,39 @@ static int patterns_in_order(void) {
     return 0;
 }
 
+/* A table of three values: sound, empty or not rising. */
+static void small_table(slice *s, int fault) {
+    fill_near(s, fault == 1 ? 0 : 3, 0, 0);
+    for (size_t i = 0; i < s->len; i++) start_of(s)[i] = (uint8_t)(fault == 2 ? 128 : 100 + 20 * i);
+}
+
+/* The size in whose place another one's lengths are tried: 4 for 8, 8 for 16, 16 for all others. */
+static size_t other_side(size_t n) { return n == 8 ? 4 : n == 16 ? 8 : 16; }
+
+/* A length for the right one: the right one, one short, or that of another size. */
+static size_t one_of(int k, size_t right, size_t other) { return k == 0 ? right : k == 1 ? right - 1 : other; }
+
+static const size_t order_sizes[] = { 4, 8, 16, 5, 12, 32, ((size_t)1 << 32) + 16 };
+
+/* Sizes, lengths, tables, patterns and offsets of a prediction, sound and wrong, each with each. */
+static int predictions_in_order(void) {
+    static const uint64_t words[] = { 0x10, 0x10000 };
+    static const int32_t offsets[] = { -255, 256 };
+    part = "order of predictions";
+    number = 0;
+    for (int s = 0; s < 7; s++) for (int b = 0; b < 3; b++) for (int o = 0; o < 3; o++) for (int t = 0; t < 3; t++)
+        for (int w = 0; w < 4; w++) for (int f = 0; f < 2; f++) {
+            size_t n = order_sizes[s], side = side_for(n), other = other_side(n);
+            predict_case c = { .n = n, .word = { words[w % 2], w / 2 * UINT64_MAX, w / 2, 0 }, .off0 = 0, .off1 = offsets[f] };
+            fill_samples(&c.border, one_of(b, 4 * side, 4 * other));
+            small_table(&c.table, t);
+            fill_samples(&c.block, one_of(o, side * side, other * other));
+            if (predict_differs(&c)) return 1;
+            number++;
+        }
+    return 0;
+}
+
 static uint32_t any_reach(void) {
     static const uint32_t often[] = { 0, 1, 2, 5, 17 };
     return seldom(20) ? 256 + below(1000) : seldom(20) ? 255 : often[below(5)];
@@ -195,10 +225,11 @@ static uint32_t any_reach(void) {
 /* The chosen record's own pattern, predicted by the library, differs from the original by the cost in the answer. */
 static const char *record_differs(choose_case *c, depth_bench_choice best) {
     depth_bench_pattern pattern = depth_bench_pattern_of(c->n, best.kind, best.entry, lent(&c->texture, c->null), c->texture.len);
-    uint8_t block[64];
+    uint8_t block[256];
+    const uint64_t *w = pattern.word;
     if (pattern.refusal != 0) return "choose: the record's pattern is refused";
-    depth_bench_prediction made = depth_bench_predict(c->n, pattern.word[0], start_of(&c->border), c->border.len, start_of(&c->table),
-        c->table.len, best.off0, best.off1, block, c->n * c->n);
+    depth_bench_prediction made = depth_bench_predict(c->n, w[0], w[1], w[2], w[3], start_of(&c->border), c->border.len,
+        start_of(&c->table), c->table.len, best.off0, best.off1, block, c->n * c->n);
     if (made.refusal != 0) return "choose: the record's prediction is refused";
     uint32_t sum = 0;
     for (size_t i = 0; i < c->n * c->n; i++) sum += (uint32_t)abs(block[i] - start_of(&c->original)[i]);
@@ -229,7 +260,7 @@ static int choose_differs(choose_case *c) {
 /* A choice for blocks of n by n; once in `times` each slice is damaged, once in 20 the reach. Half of the choices have no texture. */
 static choose_case any_choice(size_t n, uint32_t times) {
     choose_case c;
-    size_t side = n == 4 ? 4 : 8;
+    size_t side = side_for(n);
     c.n = n;
     c.reach = any_reach();
     c.null = below(2) == 1;
@@ -245,12 +276,30 @@ static int choose_once(void) {
     return choose_differs(&c);
 }
 
+/* Sizes, lengths, tables and reaches of a choice, sound and wrong, each with each. */
+static int choices_in_order(void) {
+    part = "order of choices";
+    number = 0;
+    for (int s = 0; s < 7; s++) for (int b = 0; b < 3; b++) for (int o = 0; o < 3; o++) for (int x = 0; x < 4; x++)
+        for (int t = 0; t < 3; t++) for (int r = 0; r < 2; r++) {
+            size_t n = order_sizes[s], side = side_for(n), other = other_side(n);
+            choose_case c = { .n = n, .reach = r == 0 ? 1 : 256 };
+            fill_samples(&c.border, one_of(b, 4 * side, 4 * other));
+            fill_samples(&c.original, one_of(o, side * side, other * other));
+            fill_samples(&c.texture, x == 3 ? 0 : one_of(x, side * side, other * other));
+            small_table(&c.table, t);
+            if (choose_differs(&c)) return 1;
+            number++;
+        }
+    return 0;
+}
+
 /* NULL with length 0 for each slice of each call in turn, and for every set of them together; n allowed and not. */
 static int null_in_turn(void) {
-    static const size_t sizes[] = { 4, 8, 5 };
+    static const size_t sizes[] = { 4, 8, 16, 5 };
     part = "NULL";
     number = 0;
-    for (int s = 0; s < 3; s++) for (unsigned empty = 1; empty < 16; empty++, number++) {
+    for (int s = 0; s < 4; s++) for (unsigned empty = 1; empty < 16; empty++, number++) {
         predict_case p = any_prediction(sizes[s], 0);
         choose_case c = any_choice(sizes[s], 0);
         pattern_case t = { .n = sizes[s], .kind = empty % 2 };
@@ -294,7 +343,7 @@ int main(int argc, char **argv) {
     unsigned long predictions = strtoul(argv[2], NULL, 10), choices = strtoul(argv[3], NULL, 10), patterns = strtoul(argv[4], NULL, 10);
     printf("seed %llu: %lu predictions, %lu choices, %lu patterns\n", (unsigned long long)seed, predictions, choices, patterns);
     signal(SIGSEGV, crashed);
-    if (null_in_turn() || patterns_in_order() || patterns_of_lists()) return 1;
+    if (null_in_turn() || patterns_in_order() || predictions_in_order() || choices_in_order() || patterns_of_lists()) return 1;
     if (repeat("predictions", predictions, predict_once) || repeat("patterns", patterns, pattern_once)) return 1;
     if (repeat("choices", choices, choose_once)) return 1;
     return all_seen(PREDICT, "predict", of_predict, 6) | all_seen(CHOOSE, "choose", of_choose, 5)

@@ -4,10 +4,12 @@
 #include "depth_bench.h"
 
 #ifdef DOUBLES
-depth_bench_prediction depth_bench_predict(size_t n, uint64_t word, const uint8_t *border, size_t border_len,
-    const uint8_t *table, size_t table_len, int32_t off0, int32_t off1, uint8_t *block, size_t block_len) {
-    depth_bench_prediction answer = { border[0] == 9 && border_len == 16 && n == 4 && off1 - off0 == 0 ? 0u : 1u, 12 };
-    for (size_t i = 0; i < block_len; i++) block[i] = word >> i & 1 ? table[table_len - 1] : table[0];
+depth_bench_prediction depth_bench_predict(size_t n, uint64_t word0, uint64_t word1, uint64_t word2, uint64_t word3,
+    const uint8_t *border, size_t border_len, const uint8_t *table, size_t table_len, int32_t off0, int32_t off1, uint8_t *block,
+    size_t block_len) {
+    int words = word1 == 0 && word2 == 0 && word3 == 0;
+    depth_bench_prediction answer = { words && border[0] == 9 && border_len == 16 && n == 4 && off1 - off0 == 0 ? 0u : 1u, 12 };
+    for (size_t i = 0; i < block_len; i++) block[i] = word0 >> i & 1 ? table[table_len - 1] : table[0];
     return answer;
 }
 
@@ -25,8 +27,8 @@ depth_bench_pattern depth_bench_pattern_of(size_t n, uint32_t kind, uint32_t ent
 #endif
 
 /* The calls by their types: another declaration would not go into these. */
-typedef depth_bench_prediction (*predict_call)(size_t, uint64_t, const uint8_t *, size_t, const uint8_t *, size_t, int32_t, int32_t,
-    uint8_t *, size_t);
+typedef depth_bench_prediction (*predict_call)(size_t, uint64_t, uint64_t, uint64_t, uint64_t, const uint8_t *, size_t, const uint8_t *,
+    size_t, int32_t, int32_t, uint8_t *, size_t);
 typedef depth_bench_choice (*choose_call)(size_t, const uint8_t *, size_t, const uint8_t *, size_t, const uint8_t *, size_t, uint32_t,
     const uint8_t *, size_t);
 typedef depth_bench_pattern (*pattern_call)(size_t, uint32_t, uint32_t, const uint8_t *, size_t);
@@ -45,8 +47,9 @@ int main(void) {
     if (best.refusal != 0 || best.kind != 0 || best.entry != 0 || best.off0 != 0 || best.off1 != 0 || best.cost != 0) return 1;
     depth_bench_pattern pattern = pattern_of(4, best.kind, best.entry, NULL, 0);
     if (pattern.refusal != 0 || pattern.word[0] != 0xFFF0 || (pattern.word[1] | pattern.word[2] | pattern.word[3]) != 0) return 2;
-    depth_bench_prediction made = predict(4, pattern.word[0], border, sizeof border, table, sizeof table, best.off0, best.off1, block,
-        sizeof block);
+    const uint64_t *word = pattern.word;
+    depth_bench_prediction made = predict(4, word[0], word[1], word[2], word[3], border, sizeof border, table, sizeof table, best.off0,
+        best.off1, block, sizeof block);
     if (made.refusal != 0 || made.marks != 12) return 3;
     for (int i = 0; i < 16; i++) if (block[i] != original[i]) return 4;
     /* The fields by their types. */

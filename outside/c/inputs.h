@@ -55,10 +55,31 @@ static inline size_t length_near(size_t right, uint32_t times) {
     }
 }
 
-/* A block size, mostly an allowed one. */
+/* A block size, mostly an allowed one, each as often as the others. */
 static inline size_t any_size(uint32_t times) {
-    static const size_t others[] = { 0, 1, 2, 3, 5, 6, 7, 9, 12, 16, 64, SIZE_MAX, SIZE_MAX / 4 + 1 };
-    return seldom(times) ? others[below(13)] : below(2) ? 4 : 8;
+    static const size_t allowed[] = { 4, 8, 16 };
+    static const size_t others[] = { 0, 1, 2, 3, 5, 6, 7, 9, 12, 15, 17, 24, 32, 64, ((size_t)1 << 32) + 16, SIZE_MAX, SIZE_MAX / 4 + 1 };
+    return seldom(times) ? others[below(sizeof others / sizeof *others)] : allowed[below(3)];
+}
+
+/* The side that slices are made for where n is the size: n itself where there is room for its blocks. */
+static inline size_t side_for(size_t n) { return n <= 16 ? n : 16; }
+
+/* The number of wedgelets for n, as document 01's rule gives it. */
+static inline uint32_t wedgelets_for(size_t n) { return n == 4 ? 74 : n == 8 ? 498 : 2498; }
+
+/* A pattern for n: none, all, single marks, random marks, dense and sparse. Below n = 16 words 1 to 3 are of no meaning and mostly not 0;
+   at n = 4 word 0 seldom has a bit from 16 up. */
+static inline void any_pattern(size_t n, uint64_t word[4]) {
+    uint32_t kind = below(8);
+    for (int k = 0; k < 4; k++) {
+        uint64_t any = random_word();
+        word[k] = kind == 0 ? 0 : kind == 1 ? UINT64_MAX : kind == 2 ? any & random_word() & random_word()
+            : kind == 3 ? any | random_word() | random_word() : kind == 4 ? 0 : any;
+    }
+    if (kind == 4) word[n == 16 ? below(4) : 0] = (uint64_t)1 << below(n == 4 ? 16 : 64);
+    if (n == 4 && kind != 5) word[0] &= 0xFFFF;
+    if (n != 16 && seldom(2)) for (int k = 1; k < 4; k++) word[k] = random_word();
 }
 
 /* A table of rising values, seldom damaged: empty, too long, with equal neighbours or falling. */

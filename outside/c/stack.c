@@ -10,7 +10,13 @@
 
 enum { PREDICT, PATTERN, CHOOSE, CALLS, STACK = 1 << 20 };
 
-typedef struct { size_t n; uint64_t word; int32_t off0, off1; uint32_t reach, kind, entry; slice border, table, samples, texture; } input;
+typedef struct {
+    size_t n;
+    uint64_t word[4];
+    int32_t off0, off1;
+    uint32_t reach, kind, entry;
+    slice border, table, samples, texture;
+} input;
 
 static uint8_t stack[STACK] __attribute__((aligned(4096)));
 static input *inputs;
@@ -19,16 +25,16 @@ static int call;
 static uint8_t *caller;
 static volatile uint32_t accepted;
 
-/* Inputs that are accepted, most of them, of both sizes, with the longest table and the farthest reach among them. */
+/* Inputs that are accepted, most of them, of all sizes, with the longest table and the farthest reach among them. */
 static void fill_input(input *in, unsigned long i) {
-    size_t n = any_size(10), side = n == 4 ? 4 : 8;
+    size_t n = any_size(10), side = side_for(n);
     in->n = n;
-    in->word = n == 4 ? random_word() & 0xFFFF : random_word();
+    any_pattern(n, in->word);
     in->off0 = any_offset(20);
     in->off1 = any_offset(20);
     in->reach = i % 3 == 0 ? 255 : below(257);
     in->kind = below(2);
-    in->entry = in->kind == 1 ? 0 : below(n == 4 ? 75 : 499);
+    in->entry = in->kind == 1 ? 0 : below(wedgelets_for(n) + 1);
     fill_samples(&in->border, length_near(4 * side, 20));
     fill_table(&in->table, 20);
     fill_samples(&in->samples, length_near(side * side, 20));
@@ -44,8 +50,8 @@ static void *run(void *none) {
         uint8_t *samples = start_of(&in->samples);
         switch (call) {
         case PREDICT:
-            accepted += depth_bench_predict(in->n, in->word, border, in->border.len, table, in->table.len, in->off0, in->off1, samples,
-                in->samples.len).refusal == 0;
+            accepted += depth_bench_predict(in->n, in->word[0], in->word[1], in->word[2], in->word[3], border, in->border.len, table,
+                in->table.len, in->off0, in->off1, samples, in->samples.len).refusal == 0;
             break;
         case PATTERN:
             accepted += depth_bench_pattern_of(in->n, in->kind, in->entry, texture, in->texture.len).refusal == 0;

@@ -2,7 +2,7 @@
 
 use crate::aids::{any_aids, plain_aids, Built};
 use crate::random::Random;
-use crate::reading::Aids;
+use crate::reading::{Aids, List};
 use reference::choice::Record;
 use reference::sheet::Sheet;
 
@@ -54,9 +54,9 @@ fn offset(random: &mut Random) -> i32 {
 }
 
 /// A record, mostly one that is allowed.
-fn record(random: &mut Random, aids: &Aids) -> Record {
+fn record(random: &mut Random, n: u32, aids: &Aids) -> Record {
     let contour = random.below(2) == 0 && !aids.texture.is_empty() || random.seldom(200);
-    let known = aids.count.min(aids.list.len());
+    let known = aids.list(n).known(n as usize);
     let (kind, entry) = match (contour, known) {
         (true, _) => (1, 0),
         (false, 0) => (0, 0),
@@ -68,17 +68,22 @@ fn record(random: &mut Random, aids: &Aids) -> Record {
 
 /// A case; a plain one is read as `show` reads.
 pub fn any(random: &mut Random, built: &Built, plain: bool) -> Case {
-    let n = random.pick(&[4, 8]);
+    let n = random.pick(&[4, 8, 16]);
     let most = (128 / n) as usize;
     let (width, height) = (n * side(random, most), n * side(random, most));
     let placed = (width / n) * (height / n);
     let sheet = Sheet { n, width, height, placed };
-    let aids = if plain { plain_aids(built.list(n)) } else { any_aids(random, built, &sheet) };
-    let records = (0..placed).map(|_| record(random, &aids)).collect();
+    let aids = if plain { plain_aids(built) } else { any_aids(random, built, &sheet) };
+    let records = (0..placed).map(|_| record(random, n, &aids)).collect();
     Case { sheet, table: table(random), records, aids }
 }
 
 impl Case {
+    /// The list for the case's size.
+    pub fn list(&self) -> &List {
+        self.aids.list(self.sheet.n)
+    }
+
     /// The text as document 01 lays it out, whatever the numbers are.
     pub fn text(&self) -> Vec<u8> {
         let Sheet { n, width, height, .. } = self.sheet;

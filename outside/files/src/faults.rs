@@ -4,6 +4,7 @@ use crate::cases::Case;
 use crate::lent::Fields;
 use crate::random::Random;
 use crate::writing::{space_for, Source};
+use reference::block::words_of;
 use reference::choice::Record;
 
 pub struct Fault {
@@ -37,8 +38,7 @@ pub fn source_of(case: &Case, random: &mut Random) -> Source {
     }
     Source {
         sheet: case.sheet,
-        list: case.aids.list.clone(),
-        count: case.aids.count,
+        list: case.list().clone(),
         table: case.table.clone(),
         fields: Fields::of(&records),
         space,
@@ -66,7 +66,8 @@ fn over_placed(source: &mut Source, random: &mut Random) {
 }
 
 fn size(source: &mut Source, random: &mut Random) {
-    source.sheet.n = random.pick(&[0, 1, 2, 3, 5, 6, 7, 9, 12, 16, 0x80000004, u32::MAX]);
+    source.sheet.n =
+        random.pick(&[0, 1, 2, 3, 5, 6, 7, 9, 12, 15, 16, 17, 32, 64, 0x80000004, 0x80000010, u32::MAX]);
 }
 
 /// A side that is not allowed. Where the sheet has few blocks by it, records and space are made enough and all blocks are placed,
@@ -101,11 +102,18 @@ fn table(source: &mut Source, random: &mut Random) {
     source.space += 1028;
 }
 
+/// The words of a pattern of the source's size, also where that is not allowed.
+fn pattern_words(source: &Source) -> usize {
+    words_of(source.sheet.n as usize)
+}
+
 fn count(source: &mut Source, random: &mut Random) {
-    let length = source.list.len();
-    source.count = random.pick(&[length + 1, length + 2, 10000, usize::MAX]);
+    let (words, lent) = (pattern_words(source), source.list.words.len());
+    let patterns = lent / words;
+    source.list.count =
+        random.pick(&[patterns + 1, patterns + 2, lent + 1, lent.max(patterns + 1), 10000, usize::MAX]);
     if random.seldom(2) {
-        source.list.resize(10001, 1);
+        source.list.words.resize(10001 * words, 1);
     }
 }
 
@@ -151,18 +159,19 @@ fn kind(source: &mut Source, random: &mut Random) {
 }
 
 fn entry(source: &mut Source, random: &mut Random) {
-    let count = source.count.min(20000) as u32;
+    let count = source.list.count.min(20000) as u32;
     change(source, random, |record, random| {
         (record.kind, record.entry) = (0, random.pick(&[count, count + 1, 9999, u32::MAX]));
     });
 }
 
-/// A word in use gets a bit from 16 up, which is wrong for n = 4 alone.
+/// A pattern in use gets a bit from 16 up, which is wrong for n = 4 alone.
 fn word(source: &mut Source, random: &mut Random) {
-    let known = source.count.min(source.list.len());
+    let words = pattern_words(source);
+    let known = source.list.known(source.sheet.n as usize);
     if known > 0 {
         let at = random.below(known);
-        source.list[at] |= 0x10000 << random.below(48);
+        source.list.words[at * words + random.below(words)] |= 0x10000 << random.below(48);
         change(source, random, |record, _| (record.kind, record.entry) = (0, at as u32));
     }
 }

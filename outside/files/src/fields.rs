@@ -4,10 +4,14 @@ use crate::cases::Case;
 use crate::damage::{any_line, lines};
 use crate::random::Random;
 
-const FIELDS: [&str; 24] = [
-    "0", "00", "-0", "-1", "1", "2", "3", "4", "5", "8", "12", "128", "132", "255", "256", "-255", "-256",
-    "9998", "9999", "10000", "99999", "100000", "-100000", "",
+const FIELDS: [&str; 26] = [
+    "0", "00", "-0", "-1", "1", "2", "3", "4", "5", "8", "12", "16", "32", "128", "132", "255", "256",
+    "-255", "-256", "9998", "9999", "10000", "99999", "100000", "-100000", "",
 ];
+
+/// Sizes that are not allowed, and the allowed ones, which seldom fit the rest of the line.
+const SIZES_OF_NO_FILE: [&str; 18] =
+    ["0", "1", "2", "3", "5", "6", "7", "9", "12", "15", "17", "32", "40", "64", "99999", "4", "8", "16"];
 
 /// Changes the fields of a line.
 fn with_fields(file: &mut Vec<u8>, line: usize, change: impl FnOnce(&mut Vec<Vec<u8>>)) {
@@ -57,10 +61,12 @@ pub fn field_count(file: &mut Vec<u8>, _: &Case, random: &mut Random) {
 
 pub fn sizes(file: &mut Vec<u8>, _: &Case, random: &mut Random) {
     if random.seldom(2) {
-        replace(file, 1, 0, random.pick(&["0", "1", "2", "3", "5", "6", "7", "9", "16", "40", "99999"]));
+        replace(file, 1, 0, random.pick(&SIZES_OF_NO_FILE));
     } else {
-        let side = random
-            .pick(&["0", "1", "3", "4", "6", "9", "12", "20", "124", "127", "129", "132", "136", "99999"]);
+        let side = random.pick(&[
+            "0", "1", "3", "4", "6", "8", "9", "12", "20", "24", "120", "124", "127", "129", "132", "136",
+            "144", "99999",
+        ]);
         replace(file, 1, 1 + random.below(2), side);
     }
 }
@@ -98,7 +104,7 @@ pub fn record(file: &mut Vec<u8>, case: &Case, random: &mut Random) {
             replace(file, line, 1, random.pick(&["0", "1", "5", "99999"]));
         }
         2 => {
-            let count = case.aids.count.min(99998);
+            let count = case.list().count.min(99998);
             let entry = random.pick(&[count, count + 1, 9998, 9999, 10000, 99999]);
             replace(file, line, 1, &entry.to_string());
         }
@@ -115,7 +121,7 @@ pub fn record(file: &mut Vec<u8>, case: &Case, random: &mut Random) {
 pub fn several_fields(file: &mut Vec<u8>, case: &Case, random: &mut Random) {
     let line = 4 + case.table.len() + random.below(case.records.len());
     for _ in 0..2 + random.below(3) {
-        let count = case.aids.count.min(99998);
+        let count = case.list().count.min(99998);
         let entry = random.pick(&[0, 1, count.saturating_sub(1), count, 99999]).to_string();
         match random.below(6) {
             0 => replace(file, line, random.below(4), random.pick(&FIELDS)),

@@ -9,13 +9,13 @@ use reference::sheet::Sheet;
 /// The longest file that is sound with the list as built: 128 by 128, n = 4, all values, and each record as long as it gets.
 pub fn longest(built: &Built) -> Case {
     let sheet = Sheet { n: 4, width: 128, height: 128, placed: 1024 };
-    let aids = plain_aids(&built.of_4);
-    let entry = aids.list.len() as u32 - 1;
+    let aids = plain_aids(built);
+    let entry = built.list(4).count as u32 - 1;
     let records = vec![Record { kind: 0, entry, off0: -255, off1: -255 }; 1024];
     Case { sheet, table: (0..=255).collect(), records, aids }
 }
 
-/// Files that no damage makes: document 01's own, no bytes, bytes of no meaning, and files of 100,000 bytes.
+/// Files that no damage makes: document 01's own, one of each size, of sizes beside them, no bytes, bytes of no meaning, and files of 100,000 bytes.
 pub fn fixed(random: &mut Random, built: &Built) -> Vec<Vec<u8>> {
     let sample = b"size width height values\n4 4 4 3\ndepth\n100\n128\n140\nkind entry off0 off1\n0 0 -1 1\n";
     let long = longest(built).text();
@@ -51,6 +51,14 @@ pub fn fixed(random: &mut Random, built: &Built) -> Vec<Vec<u8>> {
         filled(sample, sample),
         random.bytes(100000),
     ];
+    for n in [4, 8, 16, 12, 32] {
+        let of_size = String::from_utf8_lossy(sample).replace("4 4 4 3", &format!("{n} {n} {n} 3"));
+        files.push(of_size.clone().into_bytes());
+        files.extend(
+            [73, 74, 497, 498, 2497, 2498]
+                .map(|entry| of_size.replace("0 0 -1 1", &format!("0 {entry} -1 1")).into_bytes()),
+        );
+    }
     for length in [1, 7, 80, 1000, 16384, 33873] {
         files.push(random.bytes(length));
         files.push([title.to_vec(), random.bytes(length)].concat());

@@ -29,9 +29,15 @@ extern "C" {
     fn file_calls_read(
         bytes: *const u8,
         bytes_len: usize,
-        list: *const u64,
-        list_len: usize,
-        count: usize,
+        list4: *const u64,
+        list4_len: usize,
+        count4: usize,
+        list8: *const u64,
+        list8_len: usize,
+        count8: usize,
+        list16: *const u64,
+        list16_len: usize,
+        count16: usize,
         texture: *const u8,
         texture_len: usize,
         samples: *mut u8,
@@ -69,22 +75,29 @@ extern "C" {
     ) -> FileWritten;
 }
 
-/// The library reads a file. What it is only lent to read is taken by `&mut` too, so that a write to it would show.
+/// The library reads a file with the lists for n = 4, 8 and 16 and their counts. What it is only lent to read is taken by `&mut` too, so that a write to it would show.
 pub fn read(
     file: &mut Lent<u8>,
-    list: &mut Lent<u64>,
-    count: usize,
+    lists: &mut [Lent<u64>; 3],
+    counts: [usize; 3],
     texture: &mut Lent<u8>,
     samples: &mut Lent<u8>,
     records: &mut LentFields,
 ) -> FileRead {
+    let [list4, list8, list16] = lists;
     unsafe {
         file_calls_read(
             file.start(),
             file.len(),
-            list.start(),
-            list.len(),
-            count,
+            list4.start(),
+            list4.len(),
+            counts[0],
+            list8.start(),
+            list8.len(),
+            counts[1],
+            list16.start(),
+            list16.len(),
+            counts[2],
             texture.start(),
             texture.len(),
             samples.start(),

@@ -2,19 +2,69 @@
 
 use crate::lent::{Fields, Lent, LentFields};
 use crate::library::{self, FileRead};
+use reference::block::words_of;
 use reference::choice::Record;
-use reference::file::{self, Refused};
+use reference::file::{self, Listed, Refused, SIZES};
 use reference::sheet::{self, Sheet};
 
-/// What a file is read with: a list and its count, texture (empty for none), and the lengths of the lent samples and of the lent
+/// A list as it is lent, in words, and its count of patterns.
+#[derive(Clone)]
+pub struct List {
+    pub words: Vec<u64>,
+    pub count: usize,
+}
+
+impl List {
+    /// A list for n with all its whole patterns counted.
+    pub fn whole(n: usize, words: Vec<u64>) -> List {
+        let count = words.len() / words_of(n);
+        List { words, count }
+    }
+
+    /// The patterns below the count that are there.
+    pub fn known(&self, n: usize) -> usize {
+        self.count.min(self.words.len() / words_of(n))
+    }
+
+    fn lent(&self) -> Lent<u64> {
+        Lent::new(&self.words, 0xA5A5A5A5A5A5A5A5)
+    }
+}
+
+/// The place of a size among the lists.
+pub fn own(n: u32) -> usize {
+    SIZES.iter().position(|&size| size == n as usize).expect("an allowed size")
+}
+
+/// What a file is read with: a list for each size, texture (empty for none), and the lengths of the lent samples and of the lent
 /// kinds, entries, off0 and off1.
 #[derive(Clone)]
 pub struct Aids {
-    pub list: Vec<u64>,
-    pub count: usize,
+    pub lists: [List; 3],
     pub texture: Vec<u8>,
     pub samples: usize,
     pub records: [usize; 4],
+}
+
+impl Aids {
+    /// The list for n.
+    pub fn list(&self, n: u32) -> &List {
+        &self.lists[own(n)]
+    }
+
+    /// The lists as the independent implementation takes them.
+    pub fn listed(&self) -> file::Lists<'_> {
+        [0, 1, 2].map(|k| Listed { list: &self.lists[k].words, count: self.lists[k].count })
+    }
+
+    /// The lists lent to the library.
+    pub fn lent_lists(&self) -> [Lent<u64>; 3] {
+        [0, 1, 2].map(|k| self.lists[k].lent())
+    }
+
+    pub fn counts(&self) -> [usize; 3] {
+        [0, 1, 2].map(|k| self.lists[k].count)
+    }
 }
 
 /// The library's answer and what it left in the lent slices.
@@ -61,30 +111,34 @@ pub fn compare(bytes: &[u8], aids: &Aids) -> Result<Back, String> {
     let old_fields = Fields::unread(aids.records);
 
     let (mut samples, mut records) = (old_samples.clone(), old_fields.records());
-    let answer = file::read(bytes, &aids.list, aids.count, &aids.texture, &mut samples, &mut records);
+    let answer = file::read(bytes, &aids.listed(), &aids.texture, &mut samples, &mut records);
     let (want, fields) = (expected(&answer), old_fields.with(&records));
     if want.refusal != 0 && (samples != old_samples || records != old_fields.records()) {
         return Err("reading: the independent implementation altered something on a refusal".into());
     }
 
     let mut lent_file = Lent::new(bytes, b'0');
-    let mut lent_list = Lent::new(&aids.list, 0xA5A5A5A5A5A5A5A5);
+    let mut lent_lists = aids.lent_lists();
     let mut lent_texture = Lent::new(&aids.texture, 0xA5);
     let mut lent_samples = Lent::new(&old_samples, 0x5A);
     let mut lent_fields = LentFields::new(&old_fields);
     let got = library::read(
         &mut lent_file,
-        &mut lent_list,
-        aids.count,
+        &mut lent_lists,
+        aids.counts(),
         &mut lent_texture,
         &mut lent_samples,
         &mut lent_fields,
     );
 
     if got != want {
-        return Err(format!("reading: another answer\n  got      {got:?}\n  expected {want:?}"));
+        let lists = aids.lists.each_ref().map(|list| (list.words.len(), list.count));
+        return Err(format!(
+            "reading: another answer\n  words and counts {lists:?}\n  got      {got:?}\n  expected {want:?}"
+        ));
     }
-    if !lent_file.holds(bytes) || !lent_list.holds(&aids.list) || !lent_texture.holds(&aids.texture) {
+    let lists_hold = (0..3).all(|k| lent_lists[k].holds(&aids.lists[k].words));
+    if !lent_file.holds(bytes) || !lists_hold || !lent_texture.holds(&aids.texture) {
         return Err("reading: an input was altered".into());
     }
     if !lent_samples.holds(&samples) {
@@ -106,7 +160,8 @@ pub fn placed_in_turn(
 ) -> Result<Vec<u8>, u32> {
     let mut state = Sheet { placed: 0, ..*finished };
     let mut samples = vec![0; state.area() as usize];
-    let lent = sheet::Lent { list: &aids.list, count: aids.count, table, texture: &aids.texture };
+    let List { words, count } = aids.list(finished.n);
+    let lent = sheet::Lent { list: words, count: *count, table, texture: &aids.texture };
     for record in records {
         state = state.place(&mut samples, &lent, record)?;
     }

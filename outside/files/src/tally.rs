@@ -62,16 +62,20 @@ pub struct Tally {
     pub faults: BTreeMap<&'static str, Count>,
     pub files: u64,
     pub sound: u64,
+    /// The files accepted of each size, and the refusals at line 0 that only a list of another size earned.
+    pub sizes: BTreeMap<u32, u64>,
+    pub unused: u64,
     pub shown: u64,
     pub pictures: u64,
 }
 
 impl Tally {
-    /// Counts a file's answer; what was done to the file has these names.
-    pub fn read(&mut self, file: &[u8], refusal: u32, line: u32, done: &[&'static str]) {
+    /// Counts a file's answer, with the n in it; what was done to the file has these names.
+    pub fn read(&mut self, file: &[u8], n: u32, refusal: u32, line: u32, done: &[&'static str]) {
         self.files += 1;
         if refusal == 0 {
             self.sound += 1;
+            *self.sizes.entry(n).or_default() += 1;
         } else {
             *self.reads.entry((refusal, place_of(file, line))).or_default() += 1;
         }
@@ -119,6 +123,12 @@ impl Tally {
         println!("writing, by number (0: written): {}", writes.join(", "));
         Tally::print_counts("damage to files", &self.damages);
         Tally::print_counts("faults in writing", &self.faults);
+        let sizes: Vec<String> = self.sizes.iter().map(|(n, files)| format!("n = {n}: {files}")).collect();
+        println!(
+            "files accepted by size: {}; refused at line 0 for a list of another size alone: {}",
+            sizes.join(", "),
+            self.unused
+        );
         println!("show ran on {} files, {} of them pictures", self.shown, self.pictures);
     }
 
@@ -141,7 +151,12 @@ impl Tally {
         for number in self.writes.keys().filter(|number| !OF_WRITING.contains(number)) {
             found.push(format!("in writing {number} came up: document 01 knows none"));
         }
+        let of_size = |n: u32| self.sizes.get(&n).copied().unwrap_or(0);
         let enough = [
+            ("files of 4 accepted", of_size(4), least_files / 40),
+            ("files of 8 accepted", of_size(8), least_files / 40),
+            ("files of 16 accepted", of_size(16), least_files / 40),
+            ("refusals for a list of another size", self.unused, least_files / 100),
             ("kinds of damage", self.damages.len() as u64, damages as u64),
             ("kinds of fault", self.faults.len() as u64, faults as u64),
             ("files", self.files, least_files),

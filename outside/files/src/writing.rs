@@ -2,15 +2,14 @@
 
 use crate::lent::{Fields, Lent, LentFields};
 use crate::library::{self, FileWritten};
-use crate::reading::{self, Aids, Back};
+use crate::reading::{self, Aids, Back, List};
 use reference::file;
 use reference::sheet::Sheet;
 
 /// What a file is written from, and the number of lent bytes.
 pub struct Source {
     pub sheet: Sheet,
-    pub list: Vec<u64>,
-    pub count: usize,
+    pub list: List,
     pub table: Vec<u8>,
     pub fields: Fields,
     pub space: usize,
@@ -26,7 +25,8 @@ pub fn compare(source: &Source) -> Result<(u32, Vec<u8>), String> {
     let old: Vec<u8> = (0..source.space).map(|i| (i * 37 + 11) as u8).collect();
     let mut out = old.clone();
     let records = source.fields.records();
-    let answer = file::write(&source.sheet, &source.list, source.count, &source.table, &records, &mut out);
+    let List { words, count } = &source.list;
+    let answer = file::write(&source.sheet, words, *count, &source.table, &records, &mut out);
     let want = match answer {
         Ok(length) => FileWritten { refusal: 0, length },
         Err(refusal) => FileWritten { refusal, length: 0 },
@@ -35,24 +35,26 @@ pub fn compare(source: &Source) -> Result<(u32, Vec<u8>), String> {
         return Err("writing: the independent implementation altered something on a refusal".into());
     }
 
-    let mut lent_list = Lent::new(&source.list, 0xA5A5A5A5A5A5A5A5);
+    let mut lent_list = Lent::new(words, 0xA5A5A5A5A5A5A5A5);
     let mut lent_table = Lent::new(&source.table, 0xA5);
     let mut lent_fields = LentFields::new(&source.fields);
     let mut lent_out = Lent::new(&old, 0x5A);
     let got = library::write(
         &source.sheet,
         &mut lent_list,
-        source.count,
+        *count,
         &mut lent_table,
         &mut lent_fields,
         &mut lent_out,
     );
 
     if got != want {
-        return Err(format!("writing: another answer\n  got      {got:?}\n  expected {want:?}"));
+        let lists = (words.len(), count);
+        return Err(format!(
+            "writing: another answer\n  words and count {lists:?}\n  got      {got:?}\n  expected {want:?}"
+        ));
     }
-    if !lent_list.holds(&source.list) || !lent_table.holds(&source.table) || !lent_fields.hold(&source.fields)
-    {
+    if !lent_list.holds(words) || !lent_table.holds(&source.table) || !lent_fields.hold(&source.fields) {
         return Err("writing: an input was altered".into());
     }
     if !lent_out.holds(&out) {
@@ -66,7 +68,7 @@ pub fn write_again(bytes: &[u8], aids: &Aids, back: &Back) -> Result<(), String>
     let (sheet, table) = (back.sheet(), back.table().to_vec());
     let space = space_for(&sheet, table.len());
     let fields = Fields::of(back.placed());
-    let source = Source { sheet, list: aids.list.clone(), count: aids.count, table, fields, space };
+    let source = Source { sheet, list: aids.list(sheet.n).clone(), table, fields, space };
     match compare(&source)? {
         (0, again) if again == bytes => Ok(()),
         (0, _) => Err("what was read is written as another file".into()),

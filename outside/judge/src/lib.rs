@@ -1,7 +1,8 @@
 //! The independent implementation behind C's calls, so that a C program can compare it with `libdepth_bench.a`.
 
+use reference::block::{size_allowed, words_of};
 use reference::choice::{choose, pattern_of, Request};
-use reference::edges::edge_list;
+use reference::edges::edge_words;
 use reference::predict::predict;
 use std::slice::{from_raw_parts, from_raw_parts_mut};
 
@@ -48,7 +49,10 @@ unsafe fn lent<'a>(start: *const u8, len: usize) -> &'a [u8] {
 #[allow(clippy::too_many_arguments)]
 pub unsafe extern "C" fn judge_predict(
     n: usize,
-    word: u64,
+    word0: u64,
+    word1: u64,
+    word2: u64,
+    word3: u64,
     border: *const u8,
     border_len: usize,
     table: *const u8,
@@ -59,7 +63,8 @@ pub unsafe extern "C" fn judge_predict(
     block_len: usize,
 ) -> Prediction {
     let out = from_raw_parts_mut(block, block_len);
-    match predict(n, word, lent(border, border_len), lent(table, table_len), off0, off1, out) {
+    let pattern = [word0, word1, word2, word3];
+    match predict(n, &pattern, lent(border, border_len), lent(table, table_len), off0, off1, out) {
         Ok(marks) => Prediction { refusal: 0, marks },
         Err(refusal) => Prediction { refusal, marks: 0 },
     }
@@ -83,11 +88,11 @@ pub unsafe extern "C" fn judge_choose(
     texture: *const u8,
     texture_len: usize,
 ) -> Choice {
-    let list = if n == 4 || n == 8 { edge_list(n) } else { Vec::new() };
+    let list = if size_allowed(n) { edge_words(n) } else { &[] };
     let request = Request {
         n,
-        list: &list,
-        count: list.len(),
+        list,
+        count: list.len() / words_of(n),
         border: lent(border, border_len),
         original: lent(original, original_len),
         table: lent(table, table_len),
@@ -120,7 +125,7 @@ pub unsafe extern "C" fn judge_pattern_of(
     texture_len: usize,
 ) -> Pattern {
     match pattern_of(n, kind, entry, lent(texture, texture_len)) {
-        Ok(word) => Pattern { refusal: 0, word: [word, 0, 0, 0] },
+        Ok(word) => Pattern { refusal: 0, word },
         Err(refusal) => Pattern { refusal, ..Pattern::default() },
     }
 }

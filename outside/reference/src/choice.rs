@@ -1,11 +1,11 @@
 //! Choice: the record of least cost.
 
-use crate::block::{mark, size_allowed};
-use crate::edges::edge_list;
+use crate::block::{mark, pattern_at, patterns_of, size_allowed, words_of, Pattern};
+use crate::edges::edge_words;
 use crate::outline::outline;
-use crate::predict::{depths_by_mark, predicted, side_value};
-use crate::sides::word_allowed;
-use crate::table::sound;
+use crate::predict::{depths_by_mark, predicted, value_at};
+use crate::sides::pattern_allowed;
+use crate::table::{nearest_index, sound};
 use crate::{EMPTY_CHOICE, ENTRY, KIND, LENGTH, NO_TEXTURE, OFFSET, SIZE, TABLE, WORD};
 
 /// Kind 0 is an edge of the list, kind 1 the outline, whose entry is 0.
@@ -25,7 +25,7 @@ pub struct Choice {
 }
 
 /// "A list and its count, a border, the original, a table, a reach R (0 to 255) and optionally texture
-/// (an empty slice means none)."
+/// (an empty slice means none)." The list is lent as words, the count is of patterns.
 #[derive(Clone, Copy)]
 pub struct Request<'a> {
     pub n: usize,
@@ -38,14 +38,14 @@ pub struct Request<'a> {
     pub texture: &'a [u8],
 }
 
-/// A list count above the words lent or above 9,999 is a wrong length.
-pub fn count_allowed(list: &[u64], count: usize) -> bool {
-    count <= list.len() && count <= 9999
+/// A list count above the whole patterns lent or above 9,999 is a wrong length; words left over are none.
+pub fn count_allowed(n: usize, list: &[u64], count: usize) -> bool {
+    count <= list.len() / words_of(n) && count <= 9999
 }
 
-/// The last checks of a choice, for a list that has as many words as its count. Refusals: 5, 4, 10.
+/// The last checks of a choice, for a list that has as many patterns as its count. Refusals: 5, 4, 10.
 pub fn check_search(n: usize, list: &[u64], count: usize, reach: u32, texture: &[u8]) -> Result<(), u32> {
-    if list[..count].iter().any(|&word| !word_allowed(n, word)) {
+    if patterns_of(n, list)[..count].iter().any(|pattern| !pattern_allowed(n, pattern)) {
         return Err(WORD);
     }
     if reach > 255 {
@@ -65,7 +65,7 @@ fn check(request: &Request) -> Result<(), u32> {
     }
     let texture_fits = request.texture.is_empty() || request.texture.len() == n * n;
     let blocks_fit = request.border.len() == 4 * n && request.original.len() == n * n;
-    if !count_allowed(request.list, request.count) || !blocks_fit || !texture_fits {
+    if !count_allowed(n, request.list, request.count) || !blocks_fit || !texture_fits {
         return Err(LENGTH);
     }
     if !sound(request.table) {
@@ -75,13 +75,13 @@ fn check(request: &Request) -> Result<(), u32> {
 }
 
 /// The kinds, entries and patterns of the records, "edges in list order, then the outline".
-fn patterns(request: &Request) -> Vec<(u32, u32, u64)> {
+fn patterns(request: &Request) -> Vec<(u32, u32, Pattern)> {
     let mut all = Vec::new();
     for entry in 0..request.count {
-        all.push((0, entry as u32, request.list[entry]));
+        all.push((0, entry as u32, pattern_at(request.n, request.list, entry)));
     }
     if !request.texture.is_empty() {
-        all.push((1, 0, outline(request.texture)));
+        all.push((1, 0, outline(request.n, request.texture)));
     }
     all
 }
@@ -106,10 +106,10 @@ pub fn choose_by_trial(request: &Request) -> Result<Choice, u32> {
     check(request)?;
     let Request { n, border, table, .. } = *request;
     let mut best: Option<Choice> = None;
-    for (kind, entry, word) in patterns(request) {
+    for (kind, entry, pattern) in patterns(request) {
         for off0 in offsets(request.reach) {
             for off1 in offsets(request.reach) {
-                let prediction = predicted(n, word, border, table, off0, off1);
+                let prediction = predicted(n, &pattern, border, table, off0, off1);
                 let cost = cost(&prediction, request.original);
                 if best.is_none_or(|best| cost < best.cost) {
                     best = Some(Choice { record: Record { kind, entry, off0, off1 }, cost });
@@ -120,15 +120,26 @@ pub fn choose_by_trial(request: &Request) -> Result<Choice, u32> {
     Ok(best.unwrap())
 }
 
-/// The first offset of least cost for the samples of one side, and that cost.
-fn best_offset(request: &Request, word: u64, marked: bool, depth: u8) -> (i32, u32) {
-    let n = request.n;
-    let on_side = |i: &usize| mark(n, word, i % n, i / n) == marked;
-    let samples: Vec<u8> = (0..n * n).filter(on_side).map(|i| request.original[i]).collect();
+/// The original's unmarked samples and its marked ones.
+fn sides_of(n: usize, pattern: &Pattern, original: &[u8]) -> [Vec<u8>; 2] {
+    let mut sides = [vec![], vec![]];
+    for y in 0..n {
+        for x in 0..n {
+            sides[mark(n, pattern, x, y) as usize].push(original[y * n + x]);
+        }
+    }
+    sides
+}
+
+/// The first offset of least cost for the samples of one side, and that cost. A value's cost is worked out once.
+fn best_offset(request: &Request, samples: &[u8], depth: u8) -> (i32, u32) {
+    let value_cost = |value: u8| samples.iter().map(|&sample| sample.abs_diff(value) as u32).sum();
+    let index = nearest_index(request.table, depth) as i32;
+    let mut costs: [Option<u32>; 256] = [None; 256];
     let mut best: Option<(i32, u32)> = None;
     for offset in offsets(request.reach) {
-        let value = side_value(request.table, depth, offset);
-        let cost = cost(&vec![value; samples.len()], &samples);
+        let value = value_at(request.table, index + offset);
+        let cost = *costs[value as usize].get_or_insert_with(|| value_cost(value));
         if best.is_none_or(|best| cost < best.1) {
             best = Some((offset, cost));
         }
@@ -141,10 +152,11 @@ fn best_offset(request: &Request, word: u64, marked: bool, depth: u8) -> (i32, u
 pub fn choose(request: &Request) -> Result<Choice, u32> {
     check(request)?;
     let mut best: Option<Choice> = None;
-    for (kind, entry, word) in patterns(request) {
-        let (unmarked, marked) = depths_by_mark(request.n, word, request.border);
-        let (off0, cost0) = best_offset(request, word, false, unmarked);
-        let (off1, cost1) = best_offset(request, word, true, marked);
+    for (kind, entry, pattern) in patterns(request) {
+        let (unmarked, marked) = depths_by_mark(request.n, &pattern, request.border);
+        let sides = sides_of(request.n, &pattern, request.original);
+        let (off0, cost0) = best_offset(request, &sides[0], unmarked);
+        let (off1, cost1) = best_offset(request, &sides[1], marked);
         let cost = cost0 + cost1;
         if best.is_none_or(|best| cost < best.cost) {
             best = Some(Choice { record: Record { kind, entry, off0, off1 }, cost });
@@ -155,7 +167,7 @@ pub fn choose(request: &Request) -> Result<Choice, u32> {
 
 /// "A record's pattern is the one the list has at its entry, or for kind 1 the outline of the texture
 /// lent with the block"; the list is the edge list for n. Refusals: 1, 2, 7, 21, 6.
-pub fn pattern_of(n: usize, kind: u32, entry: u32, texture: &[u8]) -> Result<u64, u32> {
+pub fn pattern_of(n: usize, kind: u32, entry: u32, texture: &[u8]) -> Result<Pattern, u32> {
     if !size_allowed(n) {
         return Err(SIZE);
     }
@@ -163,9 +175,10 @@ pub fn pattern_of(n: usize, kind: u32, entry: u32, texture: &[u8]) -> Result<u64
         return Err(LENGTH);
     }
     match (kind, entry) {
-        (0, _) => edge_list(n).get(entry as usize).copied().ok_or(ENTRY),
+        (0, _) if entry as usize >= edge_words(n).len() / words_of(n) => Err(ENTRY),
+        (0, _) => Ok(pattern_at(n, edge_words(n), entry as usize)),
         (1, 0) if texture.is_empty() => Err(NO_TEXTURE),
-        (1, 0) => Ok(outline(texture)),
+        (1, 0) => Ok(outline(n, texture)),
         _ => Err(KIND),
     }
 }

@@ -1,8 +1,8 @@
 //! House file: writing, reading, and the text that `show` prints.
 
-use crate::block::size_allowed;
+use crate::block::words_of;
 use crate::choice::{count_allowed, Record};
-use crate::edges::edge_list;
+use crate::edges::edge_words;
 use crate::sheet::{check_record, Lent, Sheet};
 use crate::table::sound;
 use crate::{FORM, LENGTH, MISSING, TABLE};
@@ -12,6 +12,24 @@ use crate::{FORM, LENGTH, MISSING, TABLE};
 pub struct Refused {
     pub number: u32,
     pub line: u32,
+}
+
+/// The sizes that a list is lent for in reading, in this order.
+pub const SIZES: [usize; 3] = [4, 8, 16];
+
+/// A list as it is lent, in words, and its count of patterns.
+#[derive(Clone, Copy)]
+pub struct Listed<'a> {
+    pub list: &'a [u64],
+    pub count: usize,
+}
+
+/// "Reading takes a list for each size": those for n = 4, 8 and 16.
+pub type Lists<'a> = [Listed<'a>; 3];
+
+/// The lists as built.
+pub fn built_lists() -> Lists<'static> {
+    SIZES.map(|n| Listed { list: edge_words(n), count: edge_words(n).len() / words_of(n) })
 }
 
 const SIZES_LINE: &str = "size width height values";
@@ -39,8 +57,8 @@ fn text(sheet: &Sheet, table: &[u8], records: &[Record]) -> String {
     text
 }
 
-/// Writes the file into the lent bytes and answers its length; bytes past it keep their content.
-/// Refusals: 1, 2, 8, 23, 22, 3, then record by record 7, 6, 5, 4.
+/// Writes the file into the lent bytes and answers its length; bytes past it keep their content. The list is that for the
+/// sheet's n. Refusals: 1, 2, 8, 23, 22, 3, then record by record 7, 6, 5, 4.
 pub fn write(
     sheet: &Sheet,
     list: &[u64],
@@ -53,7 +71,7 @@ pub fn write(
     let blocks = sheet.blocks();
     let space = 80 + 4 * table.len() as u128 + 32 * blocks as u128;
     let space_short = (bytes.len() as u128) < space;
-    if !count_allowed(list, count) || (records.len() as u64) < blocks || space_short {
+    if !count_allowed(sheet.n as usize, list, count) || (records.len() as u64) < blocks || space_short {
         return Err(LENGTH);
     }
     sheet.check_state()?;
@@ -172,11 +190,13 @@ struct Contents {
 }
 
 /// Reads the whole file into contents of its own. Each record's line is judged by 9, 7, 21, 6, 5, 4.
-fn read_contents(bytes: &[u8], list: &[u64], count: usize, texture: &[u8]) -> Result<Contents, Refused> {
+fn read_contents(bytes: &[u8], lists: &Lists, texture: &[u8]) -> Result<Contents, Refused> {
     let mut lines = Lines { rest: bytes, line: 0 };
     let (mut sheet, values) = read_sizes(&mut lines, texture)?;
     let table = read_table(&mut lines, values)?;
     lines.expect(RECORDS_LINE)?;
+    let own = SIZES.iter().position(|&n| n == sheet.n as usize).unwrap();
+    let Listed { list, count } = lists[own];
     let lent = Lent { list, count, table: &table, texture };
     let mut records = Vec::new();
     let mut samples = vec![0; sheet.area() as usize];
@@ -194,34 +214,24 @@ fn read_contents(bytes: &[u8], list: &[u64], count: usize, texture: &[u8]) -> Re
 }
 
 /// Reads a file into the lent samples and records, and answers the finished state and the table. Past the
-/// used part nothing changes. Refusals: line 0: 2; then line by line as above.
+/// used part nothing changes. Refusals: line 0: 2, of all three lists, used or not, each count against its own size's
+/// whole patterns; then line by line as above.
 pub fn read(
     bytes: &[u8],
-    list: &[u64],
-    count: usize,
+    lists: &Lists,
     texture: &[u8],
     samples: &mut [u8],
     records: &mut [Record],
 ) -> Result<(Sheet, Vec<u8>), Refused> {
     let lent_short = samples.len() < SAMPLES_LENT || records.len() < RECORDS_LENT;
-    if !count_allowed(list, count) || lent_short {
+    let counts_fit = (0..3).all(|own| count_allowed(SIZES[own], lists[own].list, lists[own].count));
+    if !counts_fit || lent_short {
         return Err(Refused { number: LENGTH, line: 0 });
     }
-    let contents = read_contents(bytes, list, count, texture)?;
+    let contents = read_contents(bytes, lists, texture)?;
     samples[..contents.samples.len()].copy_from_slice(&contents.samples);
     records[..contents.records.len()].copy_from_slice(&contents.records);
     Ok((contents.sheet, contents.table))
-}
-
-/// The list for the n of line 2, empty where no list can be built: such a file is refused at line 2 or
-/// before, whatever the list.
-fn list_of_file(bytes: &[u8]) -> Vec<u64> {
-    let mut lines = Lines { rest: bytes, line: 0 };
-    let sizes = lines.next().and_then(|_| lines.numbers(&[false; 4]));
-    match sizes {
-        Ok(numbers) if size_allowed(numbers[0] as usize) => edge_list(numbers[0] as usize),
-        _ => vec![],
-    }
 }
 
 /// "Width and height, then the sample rows", as `show` prints them.
@@ -234,10 +244,10 @@ pub fn shown(width: usize, height: usize, samples: &[u8]) -> String {
     text
 }
 
-/// What `show` prints for a file: its samples, or the refusal. It lends no texture.
+/// What `show` prints for a file: its samples, or the refusal. It reads with the list as built for the file's n, and lends no
+/// texture.
 pub fn show(bytes: &[u8]) -> String {
-    let list = list_of_file(bytes);
-    match read_contents(bytes, &list, list.len(), &[]) {
+    match read_contents(bytes, &built_lists(), &[]) {
         Err(Refused { number, line }) => format!("refusal line\n{number} {line}\n"),
         Ok(Contents { sheet, samples, .. }) => shown(sheet.width as usize, sheet.height as usize, &samples),
     }

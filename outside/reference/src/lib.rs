@@ -1,4 +1,5 @@
-//! An independent implementation of document 01, in its order and words, by the plainest method.
+//! An independent implementation of document 01 with the changes that landed (blocks of 16), in its order and words, by the
+//! plainest method.
 //! A function that returns a `Result` is a public call: its error is document 01's refusal number,
 //! and a refused call leaves every lent buffer as it was.
 
@@ -13,7 +14,7 @@ pub mod sheet;
 pub mod sides;
 pub mod table;
 
-/// Refusal 1: n is neither 4 nor 8.
+/// Refusal 1: n is none of 4, 8 and 16.
 pub const SIZE: u32 = 1;
 /// Refusal 2: a slice of a wrong length.
 pub const LENGTH: u32 = 2;

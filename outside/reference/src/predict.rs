@@ -1,7 +1,7 @@
 //! Predicted block.
 
-use crate::block::{mark, size_allowed};
-use crate::sides::{depths, word_allowed};
+use crate::block::{mark, marks, size_allowed, Pattern};
+use crate::sides::{depths, pattern_allowed};
 use crate::table::{nearest_index, sound};
 use crate::{LENGTH, OFFSET, SIZE, TABLE, WORD};
 
@@ -10,16 +10,20 @@ pub fn offset_allowed(offset: i32) -> bool {
     (-255..=255).contains(&offset)
 }
 
-/// "The table value at: index of its side's depth, plus its offset, held to 0 .. table count − 1."
-pub fn side_value(table: &[u8], depth: u8, offset: i32) -> u8 {
-    let index = nearest_index(table, depth) as i32 + offset;
+/// The table value at an index, "held to 0 .. table count − 1".
+pub fn value_at(table: &[u8], index: i32) -> u8 {
     table[index.clamp(0, table.len() as i32 - 1) as usize]
 }
 
+/// "The table value at: index of its side's depth, plus its offset, held to 0 .. table count − 1."
+pub fn side_value(table: &[u8], depth: u8, offset: i32) -> u8 {
+    value_at(table, nearest_index(table, depth) as i32 + offset)
+}
+
 /// The depths of the unmarked and of the marked side: A is that of the side holding (0,0).
-pub fn depths_by_mark(n: usize, word: u64, border: &[u8]) -> (u8, u8) {
-    let (a, b) = depths(n, word, border);
-    if mark(n, word, 0, 0) {
+pub fn depths_by_mark(n: usize, pattern: &Pattern, border: &[u8]) -> (u8, u8) {
+    let (a, b) = depths(n, pattern, border);
+    if mark(n, pattern, 0, 0) {
         (b, a)
     } else {
         (a, b)
@@ -27,16 +31,13 @@ pub fn depths_by_mark(n: usize, word: u64, border: &[u8]) -> (u8, u8) {
 }
 
 /// The n² predicted samples; off0 is for unmarked samples, off1 for marked ones.
-pub fn predicted(n: usize, word: u64, border: &[u8], table: &[u8], off0: i32, off1: i32) -> Vec<u8> {
-    let (unmarked, marked) = depths_by_mark(n, word, border);
+pub fn predicted(n: usize, pattern: &Pattern, border: &[u8], table: &[u8], off0: i32, off1: i32) -> Vec<u8> {
+    let (unmarked, marked) = depths_by_mark(n, pattern, border);
+    let values = [side_value(table, unmarked, off0), side_value(table, marked, off1)];
     let mut block = Vec::new();
     for y in 0..n {
         for x in 0..n {
-            block.push(if mark(n, word, x, y) {
-                side_value(table, marked, off1)
-            } else {
-                side_value(table, unmarked, off0)
-            });
+            block.push(values[mark(n, pattern, x, y) as usize]);
         }
     }
     block
@@ -46,7 +47,7 @@ pub fn predicted(n: usize, word: u64, border: &[u8], table: &[u8], off0: i32, of
 /// itself". Refusals: 1, 2, 3, 5, 4.
 pub fn predict(
     n: usize,
-    word: u64,
+    pattern: &Pattern,
     border: &[u8],
     table: &[u8],
     off0: i32,
@@ -62,14 +63,14 @@ pub fn predict(
     if !sound(table) {
         return Err(TABLE);
     }
-    if !word_allowed(n, word) {
+    if !pattern_allowed(n, pattern) {
         return Err(WORD);
     }
     if !offset_allowed(off0) || !offset_allowed(off1) {
         return Err(OFFSET);
     }
-    block.copy_from_slice(&predicted(n, word, border, table, off0, off1));
-    Ok((0..64).filter(|bit| word >> bit & 1 == 1).count() as u32)
+    block.copy_from_slice(&predicted(n, pattern, border, table, off0, off1));
+    Ok(marks(n, pattern))
 }
 
 #[cfg(test)]
@@ -77,6 +78,11 @@ mod tests {
     use super::*;
 
     const TABLE_3: [u8; 3] = [100, 128, 140];
+
+    /// The pattern of one word.
+    fn of(word: u64) -> Pattern {
+        [word, 0, 0, 0]
+    }
 
     #[test]
     fn the_index_is_held_after_the_offset_is_added() {
@@ -92,7 +98,7 @@ mod tests {
     #[test]
     fn the_block_of_the_sample_file() {
         let mut block = [0; 16];
-        assert_eq!(predict(4, 0xFFF0, &[128; 16], &TABLE_3, -1, 1, &mut block), Ok(12));
+        assert_eq!(predict(4, &of(0xFFF0), &[128; 16], &TABLE_3, -1, 1, &mut block), Ok(12));
         assert_eq!(block[..4], [100; 4]);
         assert_eq!(block[4..], [140; 12]);
     }
@@ -102,24 +108,58 @@ mod tests {
         let full: Vec<u8> = (0..=255).collect();
         let border = [10, 20, 30, 40, 50, 60, 70, 80, 100, 110, 120, 130, 140, 150, 160, 170];
         let mut block = [0; 16];
-        assert_eq!(predict(4, 0xFFF0, &border, &full, 1, -2, &mut block), Ok(12));
+        assert_eq!(predict(4, &of(0xFFF0), &border, &full, 1, -2, &mut block), Ok(12));
         assert_eq!((block[0], block[15]), (111, 38));
-        assert_eq!(predict(4, 0x000F, &border, &full, 1, -2, &mut block), Ok(4));
+        assert_eq!(predict(4, &of(0x000F), &border, &full, 1, -2, &mut block), Ok(4));
         assert_eq!((block[0], block[15]), (108, 41));
+    }
+
+    #[test]
+    fn a_block_of_16_and_its_marks_in_every_word() {
+        let full: Vec<u8> = (0..=255).collect();
+        let border: Vec<u8> = (0..64).collect();
+        let pattern = [0x8000, 1, 0x3 << 20, 0xF << 60];
+        let mut block = [9; 256];
+        assert_eq!(predict(16, &pattern, &border, &full, 1, -2, &mut block), Ok(8));
+        let marked: Vec<usize> = (0..256).filter(|&i| block[i] == 47 - 2).collect();
+        assert_eq!(marked, [15, 64, 148, 149, 252, 253, 254, 255]);
+        assert_eq!(block.iter().filter(|&&sample| sample == 7 + 1).count(), 248);
+    }
+
+    #[test]
+    fn below_16_words_1_to_3_make_no_difference() {
+        let full: Vec<u8> = (0..=255).collect();
+        let border: Vec<u8> = (0..32).map(|k| 7 * k).collect();
+        for (n, word) in [(4, 0xFFF0), (4, 0x0001), (8, 0xFF00_0000_0000_0001), (8, 0)] {
+            let (mut block, mut other) = (vec![0; n * n], vec![1; n * n]);
+            let answer = predict(n, &of(word), &border[..4 * n], &full, 0, 3, &mut block);
+            let more = [word, u64::MAX, 0x10000, 5];
+            assert_eq!(predict(n, &more, &border[..4 * n], &full, 0, 3, &mut other), answer);
+            assert_eq!((answer, block), (Ok(word.count_ones()), other));
+        }
     }
 
     #[test]
     fn refusals_in_order_and_the_block_untouched() {
         let mut block = [9; 17];
         let word = 0x10000;
-        assert_eq!(predict(5, word, &[0; 3], &[], 256, 0, &mut block), Err(1));
-        assert_eq!(predict(4, word, &[0; 15], &[], 256, 0, &mut block[..16]), Err(2));
-        assert_eq!(predict(4, word, &[0; 16], &[], 256, 0, &mut block), Err(2));
-        assert_eq!(predict(4, word, &[0; 16], &[], 256, 0, &mut block[..16]), Err(3));
-        assert_eq!(predict(4, word, &[0; 16], &[7], 256, 0, &mut block[..16]), Err(5));
-        assert_eq!(predict(4, 1, &[0; 16], &[7], 256, 0, &mut block[..16]), Err(4));
-        assert_eq!(predict(4, 1, &[0; 16], &[7], 0, -256, &mut block[..16]), Err(4));
-        assert_eq!(predict(4, 1, &[0; 16], &[7], 0, i32::MIN, &mut block[..16]), Err(4));
+        assert_eq!(predict(5, &of(word), &[0; 3], &[], 256, 0, &mut block), Err(1));
+        assert_eq!(predict(4, &of(word), &[0; 15], &[], 256, 0, &mut block[..16]), Err(2));
+        assert_eq!(predict(4, &of(word), &[0; 16], &[], 256, 0, &mut block), Err(2));
+        assert_eq!(predict(4, &of(word), &[0; 16], &[], 256, 0, &mut block[..16]), Err(3));
+        assert_eq!(predict(4, &of(word), &[0; 16], &[7], 256, 0, &mut block[..16]), Err(5));
+        assert_eq!(predict(4, &of(1), &[0; 16], &[7], 256, 0, &mut block[..16]), Err(4));
+        assert_eq!(predict(4, &of(1), &[0; 16], &[7], 0, -256, &mut block[..16]), Err(4));
+        assert_eq!(predict(4, &of(1), &[0; 16], &[7], 0, i32::MIN, &mut block[..16]), Err(4));
         assert_eq!(block, [9; 17]);
+        let (border, all, mut block) = ([0; 64], [u64::MAX; 4], [9; 256]);
+        assert_eq!(predict(12, &all, &border[..48], &[7], 0, 0, &mut block[..144]), Err(1));
+        assert_eq!(predict(32, &all, &[0; 128], &[7], 0, 0, &mut [0; 1024]), Err(1));
+        assert_eq!(predict(16, &all, &border[..32], &[], 256, 0, &mut block), Err(2));
+        assert_eq!(predict(16, &all, &border, &[], 256, 0, &mut block[..64]), Err(2));
+        assert_eq!(predict(16, &all, &border, &[], 256, 0, &mut block), Err(3));
+        assert_eq!(predict(16, &all, &border, &[7], 256, 0, &mut block), Err(4));
+        assert_eq!(block, [9; 256]);
+        assert_eq!(predict(16, &all, &border, &[7], 255, 0, &mut block), Ok(256));
     }
 }

@@ -1,14 +1,12 @@
 //! Sheet. "Width and height are multiples of n, n to 128. Blocks come row by row, left to right."
 
-use crate::block::size_allowed;
+use crate::block::{pattern_at, size_allowed};
 use crate::choice::{check_search, choose, count_allowed, Record, Request};
 use crate::outline::outline;
 use crate::predict::{offset_allowed, predicted};
-use crate::sides::word_allowed;
+use crate::sides::pattern_allowed;
 use crate::table::sound;
-use crate::{
-    ALL_PLACED, ENTRY, KIND, LENGTH, MEASURES, NO_TEXTURE, OFFSET, PLACED, SIZE, TABLE, WORD,
-};
+use crate::{ALL_PLACED, ENTRY, KIND, LENGTH, MEASURES, NO_TEXTURE, OFFSET, PLACED, SIZE, TABLE, WORD};
 
 /// "The state is n, width, height and the number of blocks placed."
 #[derive(Clone, Copy, Debug, PartialEq, Eq)]
@@ -19,8 +17,8 @@ pub struct Sheet {
     pub placed: u32,
 }
 
-/// What a sheet call is lent to read: a list and its count, a table, and the sheet's texture (an empty
-/// slice means none).
+/// What a sheet call is lent to read: a list for the sheet's n and its count, a table, and the sheet's texture (an
+/// empty slice means none).
 #[derive(Clone, Copy)]
 pub struct Lent<'a> {
     pub list: &'a [u64],
@@ -128,12 +126,12 @@ impl Sheet {
     /// Writes the record's predicted block, and only that, and counts the block. The record is checked.
     fn put(mut self, samples: &mut [u8], lent: &Lent, record: &Record) -> Sheet {
         let (n, width, (left, top)) = (self.n as usize, self.width as usize, self.corner());
-        let word = match record.kind {
-            0 => lent.list[record.entry as usize],
-            _ => outline(&self.cut(lent.texture)),
+        let pattern = match record.kind {
+            0 => pattern_at(n, lent.list, record.entry as usize),
+            _ => outline(n, &self.cut(lent.texture)),
         };
         let border = self.border(samples);
-        let block = predicted(n, word, &border, lent.table, record.off0, record.off1);
+        let block = predicted(n, &pattern, &border, lent.table, record.off0, record.off1);
         for (i, sample) in block.into_iter().enumerate() {
             samples[(top + i / n) * width + left + i % n] = sample;
         }
@@ -159,7 +157,8 @@ impl Sheet {
 
     /// Whether the samples, the texture and the count fit the sheet and the list.
     fn lent_fits(&self, samples: usize, lent: &Lent) -> bool {
-        samples as u64 == self.area() && self.texture_fits(lent.texture) && count_allowed(lent.list, lent.count)
+        let count_fits = count_allowed(self.n as usize, lent.list, lent.count);
+        samples as u64 == self.area() && self.texture_fits(lent.texture) && count_fits
     }
 
     /// Places a record as the next block and hands the next state back.
@@ -229,7 +228,8 @@ pub fn check_record(
         if record.entry as usize >= count {
             return Err(ENTRY);
         }
-        if !word_allowed(n as usize, list[record.entry as usize]) {
+        let n = n as usize;
+        if !pattern_allowed(n, &pattern_at(n, list, record.entry as usize)) {
             return Err(WORD);
         }
     }

@@ -6,6 +6,7 @@ use files::cases::Case;
 use files::lent::{Fields, Lent, LentFields};
 use files::library;
 use files::random::Random;
+use files::reading::List;
 use files::writing::space_for;
 use reference::choice::Record;
 use reference::file;
@@ -35,10 +36,10 @@ fn least(mut library: impl FnMut(), mut other: impl FnMut(), calls: u32) -> [f64
 
 fn case(random: &mut Random, built: &Built, side: u32, table: Vec<u8>) -> Case {
     let sheet = Sheet { n: 4, width: 4 * side, height: 4 * side, placed: side * side };
-    let aids = plain_aids(&built.of_4);
+    let aids = plain_aids(built);
     let record = |random: &mut Random| Record {
         kind: 0,
-        entry: random.below(aids.list.len()) as u32,
+        entry: random.below(aids.list(4).count) as u32,
         off0: random.below(511) as i32 - 255,
         off1: random.below(511) as i32 - 255,
     };
@@ -48,37 +49,35 @@ fn case(random: &mut Random, built: &Built, side: u32, table: Vec<u8>) -> Case {
 
 fn time_reading(case: &Case, text: &[u8], calls: u32) -> [f64; 2] {
     let aids = &case.aids;
-    let (mut bytes, mut list, mut texture) =
-        (Lent::new(text, 0), Lent::new(&aids.list, 0), Lent::new(&[], 0));
+    let (mut bytes, mut lists, mut texture) = (Lent::new(text, 0), aids.lent_lists(), Lent::new(&[], 0));
     let (mut samples, mut fields) =
         (Lent::new(&vec![0; aids.samples], 0), LentFields::new(&Fields::unread(aids.records)));
     let (mut own_samples, mut own_records) = (vec![0; aids.samples], Fields::unread(aids.records).records());
     let library = || {
-        let back = library::read(&mut bytes, &mut list, aids.count, &mut texture, &mut samples, &mut fields);
+        let back =
+            library::read(&mut bytes, &mut lists, aids.counts(), &mut texture, &mut samples, &mut fields);
         assert_eq!(black_box(back).refusal, 0);
     };
     let other = || {
-        let back =
-            file::read(black_box(text), &aids.list, aids.count, &[], &mut own_samples, &mut own_records);
+        let back = file::read(black_box(text), &aids.listed(), &[], &mut own_samples, &mut own_records);
         assert!(black_box(back).is_ok());
     };
     least(library, other, calls)
 }
 
 fn time_writing(case: &Case, text: &[u8], calls: u32) -> [f64; 2] {
-    let (mut list, mut table) = (Lent::new(&case.aids.list, 0), Lent::new(&case.table, 0));
+    let List { words, count } = case.list();
+    let (mut list, mut table) = (Lent::new(words, 0), Lent::new(&case.table, 0));
     let mut fields = LentFields::new(&Fields::of(&case.records));
     let space = vec![0; space_for(&case.sheet, case.table.len())];
     let (mut out, mut own_out) = (Lent::new(&space, 0), space);
     let library = || {
-        let wrote =
-            library::write(&case.sheet, &mut list, case.aids.count, &mut table, &mut fields, &mut out);
+        let wrote = library::write(&case.sheet, &mut list, *count, &mut table, &mut fields, &mut out);
         assert_eq!(black_box(wrote).length, text.len());
     };
     let other = || {
-        let (list, count) = (&case.aids.list, case.aids.count);
         let wrote =
-            file::write(black_box(&case.sheet), list, count, &case.table, &case.records, &mut own_out);
+            file::write(black_box(&case.sheet), words, *count, &case.table, &case.records, &mut own_out);
         assert_eq!(black_box(wrote), Ok(text.len()));
     };
     least(library, other, calls)

@@ -2,14 +2,14 @@
 //! program `show` on SHOWN of them. It ends at the first difference with the case and status 1; so it does where a refusal never
 //! came up. files SEED FILES: the same without guards and without `show`, and the counts are not judged; that is for valgrind.
 
-use files::aids::{plain_aids, Built};
+use files::aids::{only_unused_wrong, plain_aids, Built};
 use files::cases::{self, Case};
 use files::damage::DAMAGES;
 use files::faults::{source_of, FAULTS};
 use files::fixed;
 use files::lent::without_guards;
 use files::random::Random;
-use files::reading;
+use files::reading::{self, own};
 use files::shown::Program;
 use files::tally::Tally;
 use files::writing;
@@ -39,7 +39,7 @@ fn read_once(
     tally: &mut Tally,
 ) -> Result<(), String> {
     let back = reading::compare(file, aids)?;
-    tally.read(file, back.answer.refusal, back.answer.line, done);
+    tally.read(file, back.answer.n, back.answer.refusal, back.answer.line, done);
     if back.answer.refusal == 0 {
         writing::write_again(file, aids, &back)?;
     }
@@ -47,7 +47,7 @@ fn read_once(
 }
 
 /// Writes a case, sound or with one fault or two, and reads back what was written.
-fn write_once(case: &Case, random: &mut Random, tally: &mut Tally) -> Result<(), String> {
+fn write_once(case: &Case, random: &mut Random, built: &Built, tally: &mut Tally) -> Result<(), String> {
     let (mut source, mut done) = (source_of(case, random), Vec::new());
     for _ in 0..random.pick(&[0, 0, 1, 1, 1, 2]) {
         let fault = &FAULTS[random.below(FAULTS.len())];
@@ -57,8 +57,8 @@ fn write_once(case: &Case, random: &mut Random, tally: &mut Tally) -> Result<(),
     let (refusal, written) = writing::compare(&source)?;
     tally.wrote(refusal, &done);
     if refusal == 0 {
-        let mut aids = plain_aids(&source.list);
-        aids.count = source.count;
+        let mut aids = plain_aids(built);
+        aids.lists[own(source.sheet.n)] = source.list.clone();
         if source.fields.kinds.contains(&1) {
             aids.texture = random.bytes(source.sheet.area() as usize);
         }
@@ -89,7 +89,7 @@ fn run(seed: u64, files: u64, show: &Option<(Program, u64)>, tally: &mut Tally) 
     };
     let fixed = fixed::fixed(&mut random, &built);
     for (number, file) in fixed.iter().enumerate() {
-        let aids = plain_aids(&built.of_4);
+        let aids = plain_aids(&built);
         let done = read_once(file, &aids, &[], tally).and_then(|()| show_once(file, show, tally));
         done.map_err(|what| told(number as u64, file, what))?;
     }
@@ -98,10 +98,11 @@ fn run(seed: u64, files: u64, show: &Option<(Program, u64)>, tally: &mut Tally) 
         let case = cases::any(&mut random, &built, plain);
         let (file, done) = damaged(&case, &mut random);
         let mut once = read_once(&file, &case.aids, &done, tally);
+        tally.unused += only_unused_wrong(&case.aids, case.sheet.n) as u64;
         if plain {
             once = once.and_then(|()| show_once(&file, show, tally));
         }
-        once.and_then(|()| write_once(&case, &mut random, tally))
+        once.and_then(|()| write_once(&case, &mut random, &built, tally))
             .map_err(|what| told(number, &file, what))?;
     }
     Ok(())

@@ -1,8 +1,9 @@
 //! Prints the sheets that are composed, and the refusals of the sheet calls; `outside/README.md` has the
 //! rule of every input, in its section `sheet_vectors`.
 
+use reference::block::words_of;
 use reference::choice::Record;
-use reference::edges::edge_list;
+use reference::edges::edge_words;
 use reference::random::Random;
 use reference::sheet::{Aim, Lent, Sheet};
 
@@ -27,7 +28,7 @@ struct Case {
 
 /// The cases: n, width, height, original (0 smooth, 1 bytes), table (0 full, 1 three), reach, texture (0 none,
 /// 1 bytes, 2 the original), first.
-const CASES: [[u32; 8]; 27] = [
+const CASES: [[u32; 8]; 35] = [
     [4, 4, 4, 0, 0, 0, 0, 0],
     [4, 4, 4, 1, 1, 1, 1, 0],
     [4, 4, 4, 1, 0, 5, 0, 0],
@@ -55,6 +56,14 @@ const CASES: [[u32; 8]; 27] = [
     [8, 128, 128, 0, 0, 1, 0, 100],
     [4, 128, 4, 1, 0, 1, 2, 7],
     [8, 8, 128, 1, 0, 1, 0, 9],
+    [16, 16, 16, 0, 0, 0, 0, 0],
+    [16, 16, 16, 1, 0, 5, 2, 0],
+    [16, 16, 16, 1, 1, 255, 1, 0],
+    [16, 32, 32, 1, 0, 5, 2, 2],
+    [16, 48, 16, 0, 1, 1, 0, 1],
+    [16, 16, 48, 1, 0, 1, 1, 1],
+    [16, 64, 64, 1, 0, 5, 0, 3],
+    [16, 128, 128, 1, 0, 1, 2, 0],
 ];
 
 /// As many records are lent to composing, with these fields before.
@@ -66,10 +75,10 @@ fn main() {
         composed(case);
     }
     new_refusals();
-    for case in 0..=20 {
+    for case in 0..=22 {
         compose_refusal(case);
     }
-    for case in 0..=22 {
+    for case in 0..=25 {
         place_refusal(case);
     }
 }
@@ -135,11 +144,12 @@ fn composed(number: usize) {
     };
     let mut lent_samples = samples(Source::Bytes, 70000 + number, area);
     let table: Vec<u8> = if case.full { (0..=255).collect() } else { vec![100, 128, 140] };
-    let list = edge_list(case.n as usize);
-    let lent = Lent { list: &list, count: list.len(), table: &table, texture: &texture };
+    let list = edge_words(case.n as usize);
+    let count = list.len() / words_of(case.n as usize);
+    let lent = Lent { list, count, table: &table, texture: &texture };
     let mut sheet = Sheet::new(case.n, case.width, case.height).unwrap();
     for i in 0..case.first {
-        let record = first_record(i, list.len(), !texture.is_empty());
+        let record = first_record(i, count, !texture.is_empty());
         sheet = sheet.place(&mut lent_samples, &lent, &record).unwrap();
     }
     let mut records = [BEFORE; RECORDS];
@@ -177,6 +187,12 @@ fn new_refusals() {
         (8, 8, 136),
         (4, 4, 4),
         (8, 128, 128),
+        (12, 12, 12),
+        (32, 32, 32),
+        (16, 8, 16),
+        (16, 16, 24),
+        (16, 144, 16),
+        (16, 128, 128),
     ];
     for (n, width, height) in sizes {
         let refusal = Sheet::new(n, width, height).err().unwrap_or(0);
@@ -201,8 +217,8 @@ struct Faulty {
     area: usize,
 }
 
-/// The case's first faults, with n and the width where they have none.
-fn faulty(case: usize, n: u32, width: u32) -> Faulty {
+/// The case's first faults, with n, width and height where they have none.
+fn faulty(case: usize, n: u32, width: u32, height: u32) -> Faulty {
     let n = where_faulty(case == 0, 5, n);
     let width = where_faulty(case <= 2, 10, width);
     let placed = match case {
@@ -210,9 +226,9 @@ fn faulty(case: usize, n: u32, width: u32) -> Faulty {
         4 => 4,
         _ => 0,
     };
-    let area = width as usize * 8;
+    let area = (width * height) as usize;
     Faulty {
-        sheet: Sheet { n, width, height: 8, placed },
+        sheet: Sheet { n, width, height, placed },
         samples: samples(Source::Bytes, 80000 + case, where_faulty(case <= 1, area - 1, area)),
         table: where_faulty(case <= 5, &[5, 5], &[100, 128, 140]),
         area,
@@ -229,15 +245,24 @@ fn faulty_list(words: usize) -> Vec<u64> {
 
 /// The answer of composing in a refusal case, with the checksums before and after.
 fn compose_refusal(case: usize) {
-    let mut given = faulty(case, where_faulty(case == 20, 8, 4), 8);
+    let (n, side) = match case {
+        20 => (8, 8),
+        21 | 22 => (16, 16),
+        _ => (4, 8),
+    };
+    let mut given = faulty(case, n, side, side);
     if case == 19 {
         given.samples = samples(Source::Bytes, 80000 + case, given.area + 1);
     }
-    let list = faulty_list(where_faulty(case == 16, 10000, 2));
+    let list = faulty_list(match case {
+        16 => 10000,
+        21 | 22 => 11,
+        _ => 2,
+    });
     let count = match case {
-        0..=6 | 20 => 2,
+        0..=6 | 20 | 21 => 2,
         7..=9 => 0,
-        13 => 3,
+        13 | 22 => 3,
         16 => 10000,
         _ => 1,
     };
@@ -260,11 +285,17 @@ fn compose_refusal(case: usize) {
 
 /// The answer of placing in a refusal case, with the samples' checksums before and after.
 fn place_refusal(case: usize) {
-    let mut given = faulty(case, where_faulty(case == 22, 8, 4), where_faulty(case == 21, 132, 8));
-    let list = faulty_list(2);
+    let (n, width, height) = match case {
+        21 => (4, 132, 8),
+        22 => (8, 8, 8),
+        23..=25 => (16, 16, 16),
+        _ => (4, 8, 8),
+    };
+    let mut given = faulty(case, n, width, height);
+    let list = faulty_list(where_faulty(case >= 23, 11, 2));
     let count = match case {
         17 | 18 => 0,
-        19 => 3,
+        19 | 24 => 3,
         _ => 2,
     };
     let textured = match case {
@@ -280,8 +311,8 @@ fn place_refusal(case: usize) {
         _ => 0,
     };
     let entry = match case {
-        0..=7 | 10 | 22 => 1,
-        9 => 2,
+        0..=7 | 10 | 22..=24 => 1,
+        9 | 25 => 2,
         _ => 0,
     };
     let off0 = match case {

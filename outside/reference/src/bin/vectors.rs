@@ -1,9 +1,11 @@
 //! Prints the vectors, section by section; `outside/README.md` has the rule of every input.
 //! Arguments: the names of the sections wanted; none means all of them.
 
-use reference::block::{all_marked, transposed, transposed_word};
+use reference::block::{
+    all_marked, list_words, pattern_at, pattern_where, transposed, transposed_pattern, words_of, Pattern,
+};
 use reference::choice::{choose, Choice, Request};
-use reference::edges::{edge_list, wedgelets};
+use reference::edges::{edge_list, edge_words, wedgelets};
 use reference::outline::{contour, outline};
 use reference::predict::predict;
 use reference::random::Random;
@@ -12,6 +14,9 @@ use reference::table::index_of;
 
 /// A section's name and the function that prints it.
 type Section = (&'static str, fn());
+
+/// The sizes, in the order in which each section has them.
+const SIZES: [usize; 3] = [4, 8, 16];
 
 /// All sections, in the order in which they are printed.
 const SECTIONS: [Section; 10] = [
@@ -53,13 +58,30 @@ fn number_of<T>(answer: Result<T, u32>) -> u32 {
     answer.err().unwrap_or(0)
 }
 
-/// The list for N = 4 and 8: its count, then a word a line.
+/// The digits of a pattern: up to N = 8 those of word 0, for N = 16 those of words 3 to 0.
+fn digits(n: usize, pattern: &Pattern) -> String {
+    pattern[..words_of(n)].iter().rev().map(|word| format!("{word:016x}")).collect()
+}
+
+/// The checksum of words: the low half of each, then its high half.
+fn checksum(words: &[u64]) -> u64 {
+    let halves = words.iter().flat_map(|word| [word % (1 << 32), word >> 32]);
+    halves.fold(0, |c, number| (c * 31 + number) % 1000000007)
+}
+
+/// The list for N = 4 and 8: its count, then a word a line. For N = 16 its count, the first three patterns, the last three, and
+/// the checksum of all words.
 fn wedgelet_lists() {
-    for n in [4, 8] {
+    for n in SIZES {
         let list = edge_list(n);
         println!("wedgelets {n} {}", list.len());
-        for word in list {
-            println!("{word:016x}");
+        for (entry, pattern) in list.iter().enumerate() {
+            if n < 16 || entry < 3 || list.len() - entry <= 3 {
+                println!("{}", digits(n, pattern));
+            }
+        }
+        if n == 16 {
+            println!("checksum {}", checksum(&list_words(n, &list)));
         }
     }
 }
@@ -92,12 +114,12 @@ fn contour_texture(case: u64, n: usize) -> Vec<u8> {
     }
 }
 
-/// The contours of 24 textures for N = 4 and 8.
+/// The contours of 24 textures of each size.
 fn contours() {
-    for n in [4, 8] {
+    for n in SIZES {
         for case in 0..24 {
-            let word = contour(n, &contour_texture(case, n)).unwrap();
-            println!("contour {n} {case} {word:016x}");
+            let pattern = contour(n, &contour_texture(case, n)).unwrap();
+            println!("contour {n} {case} {}", digits(n, &pattern));
         }
     }
 }
@@ -118,7 +140,7 @@ fn indices() {
 
 /// Transposed blocks of pseudo-random samples.
 fn blocks() {
-    for n in [4, 8] {
+    for n in SIZES {
         for case in 0..4 {
             let samples = Random(500 + 10 * case + n as u64).bytes(n * n);
             println!("transposed {n} {case}{}", joined(&transposed(n, &samples).unwrap()));
@@ -138,13 +160,14 @@ fn table_refusals() {
 
 /// The refusals of the list builder and of the contour.
 fn pattern_refusals() {
-    let lengths = [(4, 0), (4, 131), (4, 132), (8, 132), (8, 755), (8, 756)];
-    for (n, length) in (0..=17).map(|n| (n, 756)).chain(lengths) {
+    let small = [(4, 0), (4, 131), (4, 132), (8, 132), (8, 755), (8, 756)];
+    let large = [(16, 3540), (16, 14159), (16, 14160), (12, 14160), (32, 14160)];
+    for (n, length) in (0..=17).map(|n| (n, 756)).chain(small).chain(large) {
         let mut lent = vec![0; length];
         println!("refusal wedgelets {n} {length} {}", number_of(wedgelets(n, &mut lent)));
     }
-    for n in [0, 3, 4, 5, 8, 16] {
-        for length in [0, 15, 16, 17, 63, 64, 65, 256] {
+    for n in [0, 3, 4, 5, 8, 12, 16, 32] {
+        for length in [0, 15, 16, 17, 63, 64, 65, 144, 255, 256, 257] {
             let texture = vec![0; length];
             println!("refusal contour {n} {length} {}", number_of(contour(n, &texture)));
         }
@@ -156,105 +179,141 @@ fn test_border(n: usize) -> Vec<u8> {
     Random(900 + n as u64).bytes(4 * n)
 }
 
-/// Seven words chosen for their corner marks, then every `step`-th entry of the list from entry 0.
-fn test_words(n: usize, step: usize) -> Vec<u64> {
-    let all = all_marked(n);
-    let top_right = 1 << (n - 1);
-    let bottom_left = 1 << ((n - 1) * n);
-    let mut words = vec![0, all, 1, all - 1, top_right, bottom_left, top_right + bottom_left];
-    words.extend(edge_list(n).iter().step_by(step));
-    words
+/// Seven patterns chosen for their corner marks, then every `step`-th entry of the list from entry 0.
+fn test_patterns(n: usize, step: usize) -> Vec<Pattern> {
+    let last = n - 1;
+    let marked = |corners: &[(usize, usize)]| pattern_where(n, |x, y| corners.contains(&(x, y)));
+    let (all, first, top_right, bottom_left) = (all_marked(n), (0, 0), (last, 0), (0, last));
+    let others = [0, 1, 2, 3].map(|k| all[k] ^ marked(&[first])[k]);
+    let mut patterns = vec![[0; 4], all, marked(&[first]), others];
+    patterns.extend([marked(&[top_right]), marked(&[bottom_left]), marked(&[top_right, bottom_left])]);
+    patterns.extend(edge_list(n).iter().step_by(step));
+    patterns
 }
 
-/// Prints the side depths of a word, or their refusal.
-fn sides_line(n: usize, word: u64, border: &[u8]) {
-    match side_depths(n, word, border) {
-        Ok((lt, br)) => println!("sides {n} {word:016x} {lt} {br}"),
-        Err(number) => println!("sides {n} {word:016x} refused {number}"),
+/// Prints the side depths of a pattern, or their refusal.
+fn sides_line(n: usize, pattern: &Pattern, border: &[u8]) {
+    let shown = digits(n, pattern);
+    match side_depths(n, pattern, border) {
+        Ok((lt, br)) => println!("sides {n} {shown} {lt} {br}"),
+        Err(number) => println!("sides {n} {shown} refused {number}"),
     }
 }
 
-/// The border L(k) = 10 + 10k, T(k) = 100 + 10k; `end` is added to L(2N - 1).
+/// The border L(k) = 10 + sk, T(k) = 100 + sk, s being 10, and 5 for N = 16; `end` is added to L(2N - 1).
 fn rising_border(n: usize, end: u8) -> Vec<u8> {
-    let run = |first: u8| (0..2 * n).map(move |k| first + 10 * k as u8);
+    let slope = if n == 16 { 5 } else { 10 };
+    let run = |first: u8| (0..2 * n).map(move |k| first + slope * k as u8);
     let mut border: Vec<u8> = run(10).chain(run(100)).collect();
     border[2 * n - 1] += end;
     border
 }
 
-/// The side depths of the words of `test_words`, those of its first seven words with two more
-/// borders, then refusals.
+/// The side depths of the patterns of `test_patterns`, those of its first seven with two more borders, those seven
+/// with words that are not read, then refusals.
 fn sides() {
-    for n in [4, 8] {
-        for word in test_words(n, 7) {
-            sides_line(n, word, &test_border(n));
+    for n in SIZES {
+        for pattern in test_patterns(n, if n == 16 { 70 } else { 7 }) {
+            sides_line(n, &pattern, &test_border(n));
         }
         for end in [0, 1] {
-            for &word in &test_words(n, 7)[..7] {
-                sides_line(n, word, &rising_border(n, end));
+            for pattern in &test_patterns(n, 1)[..7] {
+                sides_line(n, pattern, &rising_border(n, end));
             }
+        }
+    }
+    for n in [4, 8] {
+        for pattern in &test_patterns(n, 1)[..7] {
+            sides_line(n, &[pattern[0], UNREAD, UNREAD, UNREAD], &rising_border(n, 0));
         }
     }
     side_refusals();
 }
 
-/// Side depths refused (the last is accepted): n, the word and the length of a border of zeros.
+/// A word that is not read, words 1 to 3 of a pattern below N = 16.
+const UNREAD: u64 = u64::MAX;
+
+/// Side depths refused (some are accepted): n, word 0 (words 1 to 3 are 0) and the length of a border of zeros.
 fn side_refusals() {
     let bit16 = 0x10000;
-    sides_line(5, 0, &[0; 20]);
-    sides_line(5, bit16, &[]);
-    sides_line(4, 0, &[0; 15]);
-    sides_line(4, 0, &[0; 17]);
-    sides_line(4, bit16, &[0; 15]);
-    sides_line(4, bit16, &[0; 16]);
-    sides_line(8, 0, &[0; 31]);
-    sides_line(8, bit16, &[0; 31]);
-    sides_line(8, bit16, &[0; 32]);
+    for (n, word, length) in [
+        (5, 0, 20),
+        (5, bit16, 0),
+        (4, 0, 15),
+        (4, 0, 17),
+        (4, bit16, 15),
+        (4, bit16, 16),
+        (8, 0, 31),
+        (8, bit16, 31),
+        (8, bit16, 32),
+        (12, 0, 48),
+        (16, 0, 63),
+        (16, bit16, 32),
+        (16, bit16, 64),
+    ] {
+        sides_line(n, &[word, 0, 0, 0], &vec![0; length]);
+    }
 }
 
-/// Prints the prediction of a word into a block of `length` bytes, or its refusal.
-fn predict_line(n: usize, word: u64, border: &[u8], table: &[u8], offsets: (i32, i32), length: usize) {
+/// Prints the prediction of a pattern into a block of `length` bytes, or its refusal.
+fn predict_line(
+    n: usize,
+    pattern: &Pattern,
+    border: &[u8],
+    table: &[u8],
+    offsets: (i32, i32),
+    length: usize,
+) {
     let (off0, off1) = offsets;
     let mut block = vec![0; length];
-    let answer = predict(n, word, border, table, off0, off1, &mut block);
-    let input = format!("predict {n} {word:016x} {} {off0} {off1}", table.len());
+    let answer = predict(n, pattern, border, table, off0, off1, &mut block);
+    let input = format!("predict {n} {} {} {off0} {off1}", digits(n, pattern), table.len());
     match answer {
         Ok(marks) => println!("{input} {marks}{}", joined(&block)),
         Err(number) => println!("{input} refused {number}"),
     }
 }
 
-/// Predictions for words, tables and offset pairs, then refusals.
+/// Predictions for patterns, tables and offset pairs, then some with words that are not read, then refusals.
 fn predictions() {
     let full = full_table();
     let pairs = [(0, 0), (-1, 1), (1, -1), (-255, 255), (255, -255), (256, 0), (0, -256)];
-    for n in [4, 8] {
+    for n in SIZES {
         let border = test_border(n);
-        for word in test_words(n, 60) {
+        for pattern in test_patterns(n, if n == 16 { 1200 } else { 60 }) {
             for table in [&[77][..], &[100, 128, 140], &full] {
                 for offsets in pairs {
-                    predict_line(n, word, &border, table, offsets, n * n);
+                    predict_line(n, &pattern, &border, table, offsets, n * n);
                 }
             }
+        }
+    }
+    for n in [4, 8] {
+        for pattern in &test_patterns(n, 1)[..7] {
+            predict_line(n, &[pattern[0], UNREAD, UNREAD, UNREAD], &test_border(n), &full, (-1, 1), n * n);
         }
     }
     prediction_refusals();
 }
 
-/// Predictions refused: each line takes one fault away from the one before it, so the order shows.
+/// Predictions refused: each line takes one fault away from the one before it, so the order shows. Words 1 to 3 are 0.
 fn prediction_refusals() {
-    for n in [4, 8] {
+    for n in SIZES {
         let border = test_border(n);
-        let word = 0x10000;
-        predict_line(n + 1, word, &border[..4 * n - 1], &[], (256, 0), n * n - 1);
-        predict_line(n, word, &border[..4 * n - 1], &[], (256, 0), n * n - 1);
-        predict_line(n, word, &border, &[], (256, 0), n * n - 1);
-        predict_line(n, word, &border, &[], (256, 0), n * n);
-        predict_line(n, word, &border, &[5, 5], (256, 0), n * n);
-        predict_line(n, word, &border, &[5], (256, 0), n * n);
-        predict_line(n, 0x10, &border, &[5], (256, 0), n * n);
-        predict_line(n, 0x10, &border, &[5], (0, -256), n * n);
-        predict_line(n, word, &border, &[5], (0, 0), n * n);
+        let short = &border[..4 * n - 1];
+        for (other, word, border, table, offsets, length) in [
+            (n + 1, 0x10000, short, &[][..], (256, 0), n * n - 1),
+            (n, 0x10000, short, &[], (256, 0), n * n - 1),
+            (n, 0x10000, &border, &[], (256, 0), n * n - 1),
+            (n, 0x10000, &border, &[], (256, 0), n * n),
+            (n, 0x10000, &border, &[5, 5], (256, 0), n * n),
+            (n, 0x10000, &border, &[5], (256, 0), n * n),
+            (n, 0x10, &border, &[5], (256, 0), n * n),
+            (n, 0x10, &border, &[5], (0, -256), n * n),
+            (n, 0x10000, &border, &[5], (0, 0), n * n),
+        ] {
+            predict_line(other, &[word, 0, 0, 0], border, table, offsets, length);
+        }
     }
 }
 
@@ -276,7 +335,7 @@ fn fill_sample(fill: u32, n: usize, i: usize, random: &mut Random) -> u8 {
         9 => of(i == 0, 200, 100),
         10 => 133,
         11 => 123,
-        12 => 3 * i as u8,
+        12 => (3 * i % 256) as u8,
         13 => of(i < 2 * n, 100, 180),
         14 => of(y % 2 == 0, 100, 180),
         _ => unreachable!("fills are 0 to 15"),
@@ -308,21 +367,27 @@ fn numbered_table(table: u32) -> Vec<u8> {
     }
 }
 
-/// The lists of the choices and their counts, by number.
+/// The patterns of which word 0 is each number and the others are 0.
+fn numbered_patterns(numbers: &[u64]) -> Vec<Pattern> {
+    numbers.iter().map(|&word| [word, 0, 0, 0]).collect()
+}
+
+/// The lists of the choices, as words, and their counts, by number.
 fn numbered_list(list: u32, n: usize) -> (Vec<u64>, usize) {
-    let built = edge_list(n);
-    let count = built.len();
-    match list {
-        0 => (built, count),
+    let (built, all) = (edge_list(n), all_marked(n));
+    let all_but_first = [all[0] - 1, all[1], all[2], all[3]];
+    let (patterns, count) = match list {
+        0 => (built.clone(), built.len()),
         1 => (built, 0),
         2 => (built, 1),
-        3 => (vec![0, all_marked(n)], 2),
-        4 => (vec![0xFFF0, 0x10000], 2),
-        5 => (vec![0xFFF0, 0x10000], 1),
-        6 => (vec![0xFFF0, 0xEEEE], 3),
-        7 => (vec![1, all_marked(n) - 1, 0x8008], 3),
+        3 => (vec![[0; 4], all], 2),
+        4 => (numbered_patterns(&[0xFFF0, 0x10000]), 2),
+        5 => (numbered_patterns(&[0xFFF0, 0x10000]), 1),
+        6 => (numbered_patterns(&[0xFFF0, 0xEEEE]), 3),
+        7 => (vec![[1, 0, 0, 0], all_but_first, [0x8008, 0, 0, 0]], 3),
         _ => unreachable!("lists are 0 to 7"),
-    }
+    };
+    (list_words(n, &patterns), count)
 }
 
 /// The cases of the choices: fill of the original, fill of the border, table, reach, fill of the
@@ -398,10 +463,10 @@ const CHOICES: [[u32; 7]; 60] = [
     [3, 3, 3, 256, 3, 6, 4],
 ];
 
-/// The chosen record of each case for N = 4 and 8, or the refusal. The seeds are 10000 for the
+/// The chosen record of each case for each size, or the refusal. The seeds are 10000 for the
 /// original, 20000 for the border and 30000 for the texture, each plus 10 * CASE + N.
 fn choices() {
-    for n in [4, 8] {
+    for n in SIZES {
         for (case, row) in CHOICES.iter().enumerate() {
             let &[original, border, table, reach, texture, list, fault] = row;
             let seed = (10 * case + n) as u64;
@@ -447,17 +512,17 @@ fn ends_decide(n: usize, border: &[u8]) -> bool {
 }
 
 /// The pattern of a chosen record.
-fn pattern_of(request: &Request, choice: &Choice) -> u64 {
+fn pattern_of(request: &Request, choice: &Choice) -> Pattern {
     match choice.record.kind {
-        0 => request.list[choice.record.entry as usize],
-        _ => outline(request.texture),
+        0 => pattern_at(request.n, request.list, choice.record.entry as usize),
+        _ => outline(request.n, request.texture),
     }
 }
 
 /// The cases of `choices` with the list as built and no fault, and a reach that is allowed: the choice, the
 /// choice for the transposed block, and whether the two records are partners.
 fn diagonal() {
-    for n in [4, 8] {
+    for n in SIZES {
         for (case, row) in CHOICES.iter().enumerate() {
             let &[original, border, table, reach, texture, list, fault] = row;
             let table = numbered_table(table);
@@ -465,14 +530,14 @@ fn diagonal() {
                 continue;
             }
             let seed = (10 * case + n) as u64;
-            let list = edge_list(n);
+            let list = edge_words(n);
             let border = filled(border, n, 4 * n, 20000 + seed);
             let original = filled(original, n, n * n, 10000 + seed);
             let texture = filled(texture, n, n * n, 30000 + seed);
             let request = Request {
                 n,
-                list: &list,
-                count: list.len(),
+                list,
+                count: list.len() / words_of(n),
                 border: &border,
                 original: &original,
                 table: &table,
@@ -496,7 +561,7 @@ fn diagonal_line(case: usize, request: &Request) {
     let partners = here.record.kind == across.record.kind
         && here.record.off0 == across.record.off0
         && here.record.off1 == across.record.off1
-        && pattern_of(&other, &across) == transposed_word(n, pattern_of(request, &here));
+        && pattern_of(&other, &across) == transposed_pattern(n, &pattern_of(request, &here));
     let holds = ends_decide(n, request.border);
     print!("diagonal {n} {case} {} {}", holds as u32, partners as u32);
     for choice in [here, across] {

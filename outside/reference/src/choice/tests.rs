@@ -1,5 +1,5 @@
 use super::*;
-use crate::block::{transposed, transposed_word};
+use crate::block::{list_words, transposed, transposed_pattern};
 use crate::edges::edge_list;
 use crate::random::Random;
 
@@ -38,8 +38,8 @@ fn offsets_by_absolute_value_then_the_negative() {
 
 #[test]
 fn ties_go_to_the_first_entry_and_to_offset_zero() {
-    let list = edge_list(4);
-    let mut request = flat_request(&list);
+    let list = edge_words(4);
+    let mut request = flat_request(list);
     request.texture = &[9; 16];
     assert_eq!(both(&request), Choice { record: Record::default(), cost: 0 });
     request.original = &[0; 16];
@@ -52,14 +52,14 @@ fn ties_go_to_the_first_entry_and_to_offset_zero() {
 
 #[test]
 fn the_outline_wins_only_with_a_lesser_cost() {
-    let list = edge_list(4);
-    let mut request = flat_request(&list);
+    let list = edge_words(4);
+    let mut request = flat_request(list);
     let checks: Vec<u8> = (0..16).map(|i| if (i % 4 + i / 4) % 2 == 0 { 100 } else { 140 }).collect();
     request.original = &checks;
     request.texture = &checks;
     let record = Record { kind: 1, entry: 0, off0: -1, off1: 1 };
     assert_eq!(both(&request), Choice { record, cost: 0 });
-    let with_outline = [outline(&checks)];
+    let with_outline = [outline(4, &checks)[0]];
     request.list = &with_outline;
     request.count = 1;
     assert_eq!(both(&request).record, Record { kind: 0, ..record });
@@ -83,15 +83,14 @@ fn of_several_offsets_of_least_cost_the_smallest() {
 
 #[test]
 fn both_methods_agree_on_pseudo_random_blocks() {
-    for seed in 0..40 {
-        let n = if seed % 4 == 3 { 8 } else { 4 };
+    for seed in 0..48 {
+        let n = [4, 8, 4, 16][seed as usize % 4];
         let mut random = Random(seed);
         let (border, original, texture) = (random.bytes(4 * n), random.bytes(n * n), random.bytes(n * n));
-        let list = edge_list(n);
         let table = spread_table([1, 2, 3, 7, 256][seed as usize % 5]);
         both(&Request {
             n,
-            list: &list,
+            list: edge_words(n),
             count: if n == 4 { 74 } else { 30 },
             border: &border,
             original: &original,
@@ -150,9 +149,57 @@ fn refusals_in_order() {
     assert!(choose(&Request { list: &long, count: 9999, reach: 0, ..request }).is_ok());
 }
 
+#[test]
+fn the_count_of_16_is_of_whole_patterns() {
+    let words: Vec<u64> = (0..11).map(|k| 0x10002 << k).collect();
+    let many = vec![1u64; 40001];
+    let request = Request { n: 16, border: &[9; 64], original: &[7; 256], reach: 1, ..flat_request(&words) };
+    let number =
+        |length: usize, count: usize| choose(&Request { list: &words[..length], count, ..request }).err();
+    assert_eq!(
+        [(8, 2), (9, 2), (10, 2), (11, 2), (4, 1)].map(|(length, count)| number(length, count)),
+        [None; 5]
+    );
+    assert_eq!(
+        [(11, 3), (8, 3), (8, 8), (7, 2), (3, 1)].map(|(length, count)| number(length, count)),
+        [Some(2); 5]
+    );
+    assert_eq!([(3, 0), (0, 0)].map(|(length, count)| number(length, count)), [Some(10); 2]);
+    assert_eq!(choose(&Request { list: &many, count: 10000, ..request }), Err(2));
+    assert!(choose(&Request { list: &many, count: 9999, ..request }).is_ok());
+    for n in [12, 32] {
+        assert_eq!(choose(&Request { n, ..request }), Err(1));
+    }
+}
+
+#[test]
+fn a_choice_for_16_finds_the_entry_that_the_block_shows() {
+    let list = edge_list(16);
+    let words = list_words(16, &list);
+    let border: Vec<u8> = (0..64).map(|k| 60 + 3 * (k % 32)).collect();
+    let table = spread_table(256);
+    for entry in [0, 1, 700, 1500, 2497] {
+        let original = predicted(16, &list[entry], &border, &table, -3, 40);
+        let request = Request {
+            n: 16,
+            list: &words,
+            count: list.len(),
+            border: &border,
+            original: &original,
+            table: &table,
+            reach: 50,
+            texture: &original,
+        };
+        let chosen = choose(&request).unwrap();
+        assert_eq!((chosen.record.kind, chosen.record.entry, chosen.cost), (0, entry as u32, 0));
+        let outlined = choose(&Request { count: entry, ..request }).unwrap();
+        assert_eq!((outlined.record.kind, outlined.record.entry, outlined.cost), (1, 0, 0));
+    }
+}
+
 /// The cost of a record with its pattern.
-fn cost_of(request: &Request, word: u64, off0: i32, off1: i32) -> u32 {
-    let prediction = predicted(request.n, word, request.border, request.table, off0, off1);
+fn cost_of(request: &Request, pattern: &Pattern, off0: i32, off1: i32) -> u32 {
+    let prediction = predicted(request.n, pattern, request.border, request.table, off0, off1);
     cost(&prediction, request.original)
 }
 
@@ -171,17 +218,18 @@ fn diagonal_law(request: &Request) {
     let border = [top, left].concat();
     let (original, texture) = (turn(request.original), turn(request.texture));
     let turned = Request { border: &border, original: &original, texture: &texture, ..*request };
-    for (kind, _, word) in patterns(request) {
-        let is_partner = |other: &&(u32, u32, u64)| other.0 == kind && other.2 == transposed_word(n, word);
-        let others = patterns(&turned);
+    let others = patterns(&turned);
+    for (kind, _, pattern) in patterns(request) {
+        let partner = transposed_pattern(n, &pattern);
+        let is_partner = |other: &&(u32, u32, Pattern)| other.0 == kind && other.2 == partner;
         let partners: Vec<_> = others.iter().filter(is_partner).collect();
         assert_eq!(partners.len(), 1);
         for (off0, off1) in [(0, 0), (-1, 1), (1, 0)] {
-            let block = predicted(n, word, request.border, request.table, off0, off1);
-            let other = predicted(n, partners[0].2, &border, request.table, off0, off1);
+            let block = predicted(n, &pattern, request.border, request.table, off0, off1);
+            let other = predicted(n, &partner, &border, request.table, off0, off1);
             assert_eq!(turn(&block), other);
-            let cost = cost_of(request, word, off0, off1);
-            assert_eq!(cost_of(&turned, partners[0].2, off0, off1), cost);
+            let cost = cost_of(request, &pattern, off0, off1);
+            assert_eq!(cost_of(&turned, &partner, off0, off1), cost);
         }
     }
     assert_eq!(choose(&turned).unwrap().cost, choose(request).unwrap().cost);
@@ -190,10 +238,10 @@ fn diagonal_law(request: &Request) {
 #[test]
 fn diagonal_law_on_pseudo_random_blocks() {
     for seed in 100..130 {
-        let n = if seed % 2 == 0 { 4 } else { 8 };
+        let n = [4, 8, 4, 8, 16][seed as usize % 5];
         let mut random = Random(seed);
         let (mut border, original) = (random.bytes(4 * n), random.bytes(n * n));
-        let (texture, list) = (random.bytes(n * n), edge_list(n));
+        let (texture, list) = (random.bytes(n * n), edge_words(n));
         let differ = border[0].abs_diff(border[2 * n - 1]) != border[2 * n].abs_diff(border[4 * n - 1]);
         if seed % 3 == 0 || !differ {
             border[2 * n - 1] = border[4 * n - 1];
@@ -201,20 +249,19 @@ fn diagonal_law_on_pseudo_random_blocks() {
         let table = spread_table([1, 3, 16, 256][seed as usize % 4]);
         diagonal_law(&Request {
             n,
-            list: &list,
-            count: list.len(),
+            list,
+            count: list.len() / words_of(n),
             border: &border,
             original: &original,
             table: &table,
             reach: [0, 1, 20, 255][seed as usize / 4 % 4],
-            texture: if seed % 5 < 3 { &texture } else { &[] },
+            texture: if seed % 7 < 4 { &texture } else { &[] },
         });
     }
 }
 
 #[test]
 fn the_law_needs_its_condition() {
-    let list = edge_list(4);
     let mut border = [50; 16];
     (border[7], border[15]) = (40, 60);
     let turned = {
@@ -224,25 +271,30 @@ fn the_law_needs_its_condition() {
     let table: Vec<u8> = (0..=255).collect();
     let mut original = [50; 16];
     original[15] = 60;
-    let request =
-        Request { border: &border, original: &original, table: &table, reach: 0, ..flat_request(&list) };
+    let request = Request {
+        border: &border,
+        original: &original,
+        table: &table,
+        reach: 0,
+        ..flat_request(edge_words(4))
+    };
     assert_eq!(choose(&request).unwrap().cost, 0);
     assert_eq!(choose(&Request { border: &turned, ..request }).unwrap().cost, 10);
 }
 
 #[test]
 fn the_pattern_of_a_record_is_its_entry_or_the_outline() {
-    let texture: Vec<u8> = (0..64).collect();
-    for n in [4, 8] {
+    let texture: Vec<u8> = (0..=255).collect();
+    for n in [4, 8, 16] {
         let (list, texture) = (edge_list(n), &texture[..n * n]);
         for lent in [&[][..], texture] {
-            let words: Vec<u64> =
+            let found: Vec<Pattern> =
                 (0..list.len() as u32).map(|entry| pattern_of(n, 0, entry, lent).unwrap()).collect();
-            assert_eq!(words, list);
+            assert_eq!(found, list);
         }
-        assert_eq!(pattern_of(n, 1, 0, texture), Ok(outline(texture)));
+        assert_eq!(pattern_of(n, 1, 0, texture), Ok(outline(n, texture)));
     }
-    assert_eq!(pattern_of(4, 0, 6, &[]), Ok(0x008E));
+    assert_eq!(pattern_of(4, 0, 6, &[]), Ok([0x008E, 0, 0, 0]));
 }
 
 #[test]
@@ -255,4 +307,10 @@ fn refusals_of_a_pattern_in_order() {
     assert_eq!(pattern_of(4, 1, 0, &[]), Err(21));
     assert_eq!(pattern_of(4, 0, 74, &[]), Err(6));
     assert_eq!(pattern_of(8, 0, u32::MAX, &[0; 64]), Err(6));
+    assert_eq!(pattern_of(12, 0, 0, &[]), Err(1));
+    assert_eq!(pattern_of(32, 0, 0, &[]), Err(1));
+    assert_eq!(pattern_of(16, 2, 0, &[0; 64]), Err(2));
+    assert_eq!(pattern_of(16, 1, 1, &[0; 256]), Err(7));
+    assert_eq!(pattern_of(16, 1, 0, &[]), Err(21));
+    assert_eq!(pattern_of(16, 0, 2498, &[]), Err(6));
 }

@@ -13,12 +13,11 @@ const UNREAD: Record = Record { kind: 9, entry: 9, off0: 999, off1: 999 };
 /// State, table, samples and records.
 type Read = (Sheet, Vec<u8>, Vec<u8>, Vec<Record>);
 
-/// Reads with the built list for n = 4, or the refusal; refused or past the used part, nothing changes.
-fn read_4(text: &str, texture: &[u8]) -> Result<Read, (u32, u32)> {
-    let list = edge_list(4);
+/// Reads with the lists as built, or the refusal; refused or past the used part, nothing changes.
+fn read_built(text: &str, texture: &[u8]) -> Result<Read, (u32, u32)> {
     let mut samples = vec![77; SAMPLES_LENT];
     let mut records = vec![UNREAD; RECORDS_LENT];
-    let answer = read(text.as_bytes(), &list, list.len(), texture, &mut samples, &mut records);
+    let answer = read(text.as_bytes(), &built_lists(), texture, &mut samples, &mut records);
     let (area, blocks) = match &answer {
         Ok((sheet, _)) => (sheet.area() as usize, sheet.blocks() as usize),
         Err(_) => (0, 0),
@@ -35,21 +34,21 @@ fn read_4(text: &str, texture: &[u8]) -> Result<Read, (u32, u32)> {
 fn refused(old: &str, new: &str) -> (u32, u32) {
     assert_eq!(SAMPLE.matches(old).count(), 1, "{old}");
     let text = SAMPLE.replace(old, new);
-    let answer = read_4(&text, &[]).unwrap_err();
+    let answer = read_built(&text, &[]).unwrap_err();
     assert_eq!(show(text.as_bytes()), format!("refusal line\n{} {}\n", answer.0, answer.1));
     answer
 }
 
 #[test]
 fn the_sample_file() {
-    let (sheet, table, samples, records) = read_4(SAMPLE, &[]).unwrap();
+    let (sheet, table, samples, records) = read_built(SAMPLE, &[]).unwrap();
     assert_eq!(sheet, Sheet { n: 4, width: 4, height: 4, placed: 1 });
     assert_eq!(table, [100, 128, 140]);
     assert_eq!(samples, [[100; 4], [140; 4], [140; 4], [140; 4]].concat());
     assert_eq!(records, [Record { kind: 0, entry: 0, off0: -1, off1: 1 }]);
     assert_eq!(show(SAMPLE.as_bytes()), SHOWN);
     let mut bytes = vec![7; 80 + 4 * 3 + 32];
-    let length = write(&sheet, &edge_list(4), 74, &table, &records, &mut bytes).unwrap();
+    let length = write(&sheet, edge_words(4), 74, &table, &records, &mut bytes).unwrap();
     assert_eq!(&bytes[..length], SAMPLE.as_bytes());
     assert!(bytes[length..].iter().all(|&byte| byte == 7));
 }
@@ -99,6 +98,12 @@ fn refusals_of_sizes() {
         ("5 0 0 0\n", (1, 2)),
         ("0 4 4 3\n", (1, 2)),
         ("99999 4 4 3\n", (1, 2)),
+        ("12 12 12 3\n", (1, 2)),
+        ("32 32 32 3\n", (1, 2)),
+        ("16 4 4 3\n", (8, 2)),
+        ("16 16 24 3\n", (8, 2)),
+        ("16 16 144 3\n", (8, 2)),
+        ("16 16 16 0\n", (3, 2)),
         ("4 6 4 0\n", (8, 2)),
         ("4 4 0 3\n", (8, 2)),
         ("4 132 4 3\n", (8, 2)),
@@ -148,16 +153,33 @@ fn refusals_of_values_and_records() {
     ] {
         assert_eq!(refused(old, new), expected, "{old}{new}");
     }
-    assert_eq!(read_4("", &[]).unwrap_err(), (9, 1));
+    assert_eq!(read_built("", &[]).unwrap_err(), (9, 1));
     assert_eq!(show(&[255, 10]), "refusal line\n9 1\n");
 }
 
 #[test]
 fn the_first_bad_line_counts() {
     let text = SAMPLE.replace("128\n", "1 28\n").replace("4 4 4 3", "4 5 4 3");
-    assert_eq!(read_4(&text, &[]).unwrap_err(), (8, 2));
+    assert_eq!(read_built(&text, &[]).unwrap_err(), (8, 2));
     let text = SAMPLE.replace("128\n", "90\n").replace("140\n", "x\n");
-    assert_eq!(read_4(&text, &[]).unwrap_err(), (3, 5));
+    assert_eq!(read_built(&text, &[]).unwrap_err(), (3, 5));
+}
+
+#[test]
+fn a_file_of_16() {
+    let text = SAMPLE.replace("4 4 4 3", "16 16 16 3").replace("0 0 -1 1", "0 2497 -1 1");
+    let (sheet, _, samples, records) = read_built(&text, &[]).unwrap();
+    assert_eq!(sheet, Sheet { n: 16, width: 16, height: 16, placed: 1 });
+    assert_eq!(records, [Record { kind: 0, entry: 2497, off0: -1, off1: 1 }]);
+    let pattern = crate::block::pattern_at(16, edge_words(16), 2497);
+    for (i, &sample) in samples.iter().enumerate() {
+        let marked = crate::block::mark(16, &pattern, i % 16, i / 16);
+        assert_eq!(sample, if marked { 140 } else { 100 });
+    }
+    let refused = read_built(&text.replace("0 2497", "0 2498"), &[]).unwrap_err();
+    assert_eq!(refused, (6, 8));
+    assert_eq!(read_built(&text, &[0; 64]).unwrap_err(), (2, 2));
+    assert!(read_built(&text.replace("0 2497", "1 0"), &[0; 256]).is_ok());
 }
 
 #[test]
@@ -166,16 +188,46 @@ fn lengths_and_texture_in_reading() {
     let (mut samples, mut records) = (vec![7; SAMPLES_LENT], vec![UNREAD; RECORDS_LENT]);
     let bad = "not a file".as_bytes();
     let short = Err(Refused { number: 2, line: 0 });
-    assert_eq!(read(bad, &list, 10000, &[], &mut samples, &mut records), short);
-    assert_eq!(read(bad, &list[..1], 2, &[], &mut samples, &mut records), short);
-    assert_eq!(read(bad, &list, 1, &[], &mut samples[1..], &mut records), short);
-    assert_eq!(read(bad, &list, 1, &[], &mut samples, &mut records[1..]), short);
+    let with = |list, count| [Listed { list, count }, built_lists()[1], built_lists()[2]];
+    assert_eq!(read(bad, &with(&list, 10000), &[], &mut samples, &mut records), short);
+    assert_eq!(read(bad, &with(&list[..1], 2), &[], &mut samples, &mut records), short);
+    assert_eq!(read(bad, &with(&list, 1), &[], &mut samples[1..], &mut records), short);
+    assert_eq!(read(bad, &with(&list, 1), &[], &mut samples, &mut records[1..]), short);
     let word = Err(Refused { number: 5, line: 8 });
-    assert_eq!(read(SAMPLE.as_bytes(), &list, 1, &[], &mut samples, &mut records), word);
-    assert_eq!(read_4(SAMPLE, &[0; 15]).unwrap_err(), (2, 2));
-    assert_eq!(read_4(&SAMPLE.replace("4 4 4 3", "4 4 4 0"), &[0; 15]).unwrap_err(), (2, 2));
-    assert_eq!(read_4(&SAMPLE.replace("4 4 4 3", "4 4 6 3"), &[0; 15]).unwrap_err(), (8, 2));
-    assert!(read_4(&SAMPLE.replace("0 0 -1 1", "1 0 -1 1"), &[0; 16]).is_ok());
+    assert_eq!(read(SAMPLE.as_bytes(), &with(&list, 1), &[], &mut samples, &mut records), word);
+    assert_eq!(read_built(SAMPLE, &[0; 15]).unwrap_err(), (2, 2));
+    assert_eq!(read_built(&SAMPLE.replace("4 4 4 3", "4 4 4 0"), &[0; 15]).unwrap_err(), (2, 2));
+    assert_eq!(read_built(&SAMPLE.replace("4 4 4 3", "4 4 6 3"), &[0; 15]).unwrap_err(), (8, 2));
+    assert!(read_built(&SAMPLE.replace("0 0 -1 1", "1 0 -1 1"), &[0; 16]).is_ok());
+}
+
+#[test]
+fn all_three_lists_are_judged_and_only_the_files_own_is_used() {
+    let many = vec![0x10000u64; 40000];
+    let text = SAMPLE.replace("4 4 4 3", "16 16 16 3");
+    let read_with = |file: &str, own: usize, list, count| {
+        let mut lists = built_lists();
+        lists[own] = Listed { list, count };
+        let (mut samples, mut records) = (vec![7; SAMPLES_LENT], vec![UNREAD; RECORDS_LENT]);
+        let answer = read(file.as_bytes(), &lists, &[], &mut samples, &mut records);
+        answer.map(|_| ()).map_err(|refused| (refused.number, refused.line))
+    };
+    for file in [SAMPLE, &text, "not a file"] {
+        for own in 0..3 {
+            let words = words_of(SIZES[own]);
+            assert_eq!(read_with(file, own, &many, 10000), Err((2, 0)));
+            assert_eq!(read_with(file, own, &many[..9 * words - 1], 9), Err((2, 0)));
+            assert_eq!(read_with(file, own, &[], 1), Err((2, 0)));
+            assert_ne!(read_with(file, own, &many, 9999), Err((2, 0)));
+            assert_ne!(read_with(file, own, &many[..9 * words], 9), Err((2, 0)));
+            assert_ne!(read_with(file, own, &[], 0), Err((2, 0)));
+        }
+    }
+    assert_eq!(read_with(&text, 2, &many[..7], 1), Ok(()));
+    assert_eq!(read_with(&text, 2, &many[..7], 2), Err((2, 0)));
+    assert_eq!(read_with(&text, 0, &[], 0), Ok(()));
+    assert_eq!(read_with(&text, 2, &[], 0), Err((6, 8)));
+    assert_eq!(read_with(SAMPLE, 2, &[], 0), Ok(()));
 }
 
 #[test]
@@ -203,28 +255,42 @@ fn refusals_of_writing_in_order_and_the_bytes_untouched() {
     assert_eq!(refused(full, 2, &[7], &[edge(1, 256), bad], 148), 5);
     assert_eq!(refused(full, 2, &[7], &[edge(0, 256), bad], 148), 4);
     assert!(bytes.iter().all(|&byte| byte == 7));
+    let words = [0x10000; 11];
+    let of_16 = Sheet { n: 16, width: 16, height: 16, placed: 1 };
+    assert_eq!(write(&of_16, &words, 3, &[7], &[sound], &mut bytes), Err(2));
+    assert_eq!(write(&of_16, &words[..7], 2, &[7], &[sound], &mut bytes), Err(2));
+    assert_eq!(write(&of_16, &words, 2, &[7], &[edge(2, 0)], &mut bytes), Err(6));
+    assert!(bytes.iter().all(|&byte| byte == 7));
+    assert!(write(&of_16, &words, 2, &[7], &[edge(1, 0)], &mut bytes).is_ok());
     let outline = Record { kind: 1, ..sound };
     assert!(write(&full, &list, 2, &[7], &[outline, sound, bad], &mut bytes).is_ok());
 }
 
 #[test]
 fn written_files_read_back() {
-    for (n, wide, high, seed, textured) in [(4, 3, 2, 1, true), (8, 2, 3, 2, true), (4, 32, 32, 3, false)] {
-        let (list, mut random) = (edge_list(n), Random(seed));
+    let cases = [
+        (4, 3, 2, 1, true),
+        (8, 2, 3, 2, true),
+        (4, 32, 32, 3, false),
+        (16, 2, 2, 4, true),
+        (16, 8, 1, 5, false),
+    ];
+    for (n, wide, high, seed, textured) in cases {
+        let (list, count, mut random) = (edge_words(n), edge_words(n).len() / words_of(n), Random(seed));
         let area = n * n * wide * high;
         let table: Vec<u8> = (0..=255).step_by(5).collect();
         let (original, texture) = (random.bytes(area), random.bytes(if textured { area } else { 0 }));
-        let lent = Lent { list: &list, count: list.len(), table: &table, texture: &texture };
+        let lent = Lent { list, count, table: &table, texture: &texture };
         let (mut samples, mut records) = (vec![0; area], vec![UNREAD; wide * high]);
         let empty = Sheet::new(n as u32, (n * wide) as u32, (n * high) as u32).unwrap();
         let aim = Aim { original: &original, reach: 9 };
         let (sheet, _) = empty.compose(&mut samples, &lent, &aim, &mut records).unwrap();
         let mut bytes = vec![0; 80 + 4 * table.len() + 32 * records.len()];
-        let length = write(&sheet, &list, list.len(), &table, &records, &mut bytes).unwrap();
+        let length = write(&sheet, list, count, &table, &records, &mut bytes).unwrap();
 
         let (mut read_samples, mut read_records) = (vec![1; SAMPLES_LENT], vec![UNREAD; RECORDS_LENT]);
         let file = &bytes[..length];
-        let answer = read(file, &list, list.len(), &texture, &mut read_samples, &mut read_records);
+        let answer = read(file, &built_lists(), &texture, &mut read_samples, &mut read_records);
         assert_eq!(answer, Ok((sheet, table)));
         assert_eq!(read_samples[..area], samples);
         assert_eq!(read_records[..records.len()], records);
@@ -233,7 +299,6 @@ fn written_files_read_back() {
 
 #[test]
 fn an_altered_file_is_refused_or_is_the_file_written_of_what_was_read() {
-    let list = edge_list(4);
     for at in 0..SAMPLE.len() {
         for byte in [b'\n', b' ', b'-', b'0', b'1', b'5', b'9', b'k', 0, 255] {
             let (mut replaced, mut longer, mut shorter) =
@@ -243,10 +308,11 @@ fn an_altered_file_is_refused_or_is_the_file_written_of_what_was_read() {
             shorter.remove(at);
             for file in [replaced, longer, shorter] {
                 let (mut samples, mut records) = (vec![7; SAMPLES_LENT], vec![UNREAD; RECORDS_LENT]);
-                let answer = read(&file, &list, list.len(), &[], &mut samples, &mut records);
+                let answer = read(&file, &built_lists(), &[], &mut samples, &mut records);
                 if let Ok((sheet, table)) = answer {
                     let mut bytes = vec![0; 1000];
-                    let length = write(&sheet, &list, list.len(), &table, &records, &mut bytes).unwrap();
+                    let list = built_lists()[SIZES.iter().position(|&n| n == sheet.n as usize).unwrap()];
+                    let length = write(&sheet, list.list, list.count, &table, &records, &mut bytes).unwrap();
                     assert_eq!(bytes[..length], file);
                 }
             }

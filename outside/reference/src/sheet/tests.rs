@@ -1,5 +1,6 @@
 use super::*;
-use crate::edges::edge_list;
+use crate::block::words_of;
+use crate::edges::edge_words;
 use crate::random::Random;
 
 const TABLE_3: [u8; 3] = [100, 128, 140];
@@ -23,8 +24,13 @@ fn edge(entry: u32, off0: i32, off1: i32) -> Record {
 fn new_sheets() {
     assert_eq!(Sheet::new(4, 4, 128), Ok(state(4, 4, 128, 0)));
     assert_eq!(Sheet::new(8, 128, 8), Ok(state(8, 128, 8, 0)));
-    assert_eq!(Sheet::new(0, 8, 8), Err(1));
-    assert_eq!(Sheet::new(5, 3, 0), Err(1));
+    assert_eq!(Sheet::new(16, 128, 16), Ok(state(16, 128, 16, 0)));
+    for (n, width, height) in [(0, 8, 8), (5, 3, 0), (12, 12, 12), (32, 32, 32)] {
+        assert_eq!(Sheet::new(n, width, height), Err(1));
+    }
+    for (n, width, height) in [(16, 8, 16), (16, 16, 24), (16, 144, 16)] {
+        assert_eq!(Sheet::new(n, width, height), Err(8));
+    }
     for (n, width, height) in [(4, 0, 4), (4, 4, 0), (4, 6, 4), (8, 8, 12), (8, 136, 8), (4, 4, 132)] {
         assert_eq!(Sheet::new(n, width, height), Err(8));
     }
@@ -61,8 +67,8 @@ fn borders_below_a_row() {
 
 #[test]
 fn placing_writes_only_its_block() {
-    let list = edge_list(4);
-    let lent = Lent { list: &list, count: list.len(), table: &TABLE_3, texture: &[] };
+    let list = edge_words(4);
+    let lent = Lent { list, count: list.len(), table: &TABLE_3, texture: &[] };
     let mut samples = vec![7; 96];
     let next = state(4, 12, 8, 0).place(&mut samples, &lent, &edge(0, -1, 1)).unwrap();
     assert_eq!(next, state(4, 12, 8, 1));
@@ -74,6 +80,31 @@ fn placing_writes_only_its_block() {
         };
         assert_eq!(sample, expected);
     }
+}
+
+#[test]
+fn placing_in_blocks_of_16() {
+    let (list, table) = (edge_words(16), full_table());
+    let lent = Lent { list, count: 2498, table: &table, texture: &[] };
+    let mut samples: Vec<u8> = (0..32 * 32).map(|i| (20 + i % 199) as u8).collect();
+    let before = samples.clone();
+    let next = state(16, 32, 32, 3).place(&mut samples, &lent, &edge(0, 5, -5)).unwrap();
+    assert_eq!(next, state(16, 32, 32, 4));
+    // entry 0 marks all rows but the first: A is T7, B is L15
+    let (a, b) = (before[15 * 32 + 16 + 7], before[31 * 32 + 15]);
+    for (i, &sample) in samples.iter().enumerate() {
+        let expected = match (i % 32, i / 32) {
+            (16..32, 16) => a + 5,
+            (16..32, 17..32) => b - 5,
+            _ => before[i],
+        };
+        assert_eq!(sample, expected);
+    }
+    let short = Lent { list: &list[..4 * 2498 - 1], ..lent };
+    assert_eq!(state(16, 32, 32, 3).place(&mut samples, &short, &edge(0, 5, -5)), Err(2));
+    let fewer = Lent { list: &list[..11], count: 2, ..lent };
+    assert_eq!(state(16, 32, 32, 3).place(&mut samples, &fewer, &edge(2, 0, 0)), Err(6));
+    assert!(state(16, 32, 32, 3).place(&mut samples, &fewer, &edge(1, 0, 0)).is_ok());
 }
 
 #[test]
@@ -121,11 +152,12 @@ fn refusals_of_placing_in_order_and_the_samples_untouched() {
 
 #[test]
 fn composing_is_choosing_and_placing_in_turn() {
-    for (n, seed, textured) in [(4, 1, true), (8, 2, false), (4, 3, false), (8, 4, true)] {
-        let (list, table, mut random) = (edge_list(n), full_table(), Random(seed));
+    let cases = [(4, 1, true), (8, 2, false), (4, 3, false), (8, 4, true), (16, 5, true), (16, 6, false)];
+    for (n, seed, textured) in cases {
+        let (list, table, mut random) = (edge_words(n), full_table(), Random(seed));
         let area = 6 * n * n;
         let (original, texture) = (random.bytes(area), random.bytes(if textured { area } else { 0 }));
-        let lent = Lent { list: &list, count: list.len(), table: &table, texture: &texture };
+        let lent = Lent { list, count: list.len() / words_of(n), table: &table, texture: &texture };
         let aim = Aim { original: &original, reach: 20 };
         let empty = Sheet::new(n as u32, 3 * n as u32, 2 * n as u32).unwrap();
         let (mut samples, mut records) = (vec![1; area], vec![Record::default(); 7]);

@@ -14,7 +14,7 @@ mod shown;
 
 const USAGE: &str = "usage:
 picture [SCALE [N]]       draws the sheets that `show` printed (standard input) side by side, each sample as a square
-                          of SCALE by SCALE (1 to 16), where N (4 or 8) is given with lines between blocks of N by N
+                          of SCALE by SCALE (1 to 16), where N (4, 8 or 16) is given with lines between blocks of N by N
 picture wedgelets N SCALE draws all wedgelets of N by N samples in list order";
 
 const WHITE: u8 = 255;
@@ -59,17 +59,22 @@ impl Style {
     }
 }
 
-/// The wedgelets in list order, 10 in a row for n = 4 and 25 for n = 8, marked samples black.
+/// The wedgelets in list order, 10 in a row for n = 4, 25 for n = 8 and 50 for n = 16, marked samples black.
 fn wedgelets(n: usize, scale: usize) -> Picture {
-    let (list, columns) = (edge_list(n), if n == 4 { 10 } else { 25 });
+    let columns = match n {
+        4 => 10,
+        8 => 25,
+        _ => 50,
+    };
+    let list = edge_list(n);
     let line = scale.div_ceil(2);
     let cell = n * scale + line;
     let rows = list.len().div_ceil(columns);
     let mut picture = Picture::new(columns * cell + line, rows * cell + line, GREY);
-    for (entry, &word) in list.iter().enumerate() {
+    for (entry, pattern) in list.iter().enumerate() {
         let (left, top) = (line + entry % columns * cell, line + entry / columns * cell);
         for (x, y) in (0..n * n).map(|i| (i % n, i / n)) {
-            let colour = if mark(n, word, x, y) { BLACK } else { WHITE };
+            let colour = if mark(n, pattern, x, y) { BLACK } else { WHITE };
             picture.fill(left + x * scale, top + y * scale, scale, scale, colour);
         }
     }
@@ -81,7 +86,7 @@ fn scale(argument: &str) -> Result<usize, String> {
     argument.parse().ok().filter(|scale| (1..=16).contains(scale)).ok_or(USAGE.into())
 }
 
-/// The block size in an argument, 4 or 8.
+/// The block size in an argument, 4, 8 or 16.
 fn size(argument: &str) -> Result<usize, String> {
     argument.parse().ok().filter(|&n| size_allowed(n)).ok_or(USAGE.into())
 }
@@ -164,6 +169,7 @@ mod tests {
         assert_eq!(row(&drawn, 1)[..11], [GREY, w, w, w, w, GREY, w, w, w, w, GREY]);
         assert_eq!(row(&drawn, 2)[..11], [GREY, b, b, b, b, GREY, b, b, b, w, GREY]);
         assert_eq!((wedgelets(8, 1).width, wedgelets(8, 1).height), (226, 181));
+        assert_eq!((wedgelets(16, 1).width, wedgelets(16, 1).height), (851, 851));
     }
 
     #[test]

@@ -1,7 +1,8 @@
 //! Writes the sample files of `docs/samples` into the folder that is named, which must exist.
 
+use reference::block::words_of;
 use reference::choice::{cost, Record};
-use reference::edges::edge_list;
+use reference::edges::edge_words;
 use reference::file::{shown, write, RECORDS_LENT};
 use reference::sheet::{Aim, Lent, Sheet};
 use std::path::Path;
@@ -28,15 +29,16 @@ struct Composed {
 
 /// Composes the scene and writes its record file.
 fn composed(n: u32) -> Result<Composed, u32> {
-    let (list, table, original) = (edge_list(n as usize), scene::table(), scene::original());
-    let lent = Lent { list: &list, count: list.len(), table: &table, texture: &[] };
+    let (list, table, original) = (edge_words(n as usize), scene::table(), scene::original());
+    let count = list.len() / words_of(n as usize);
+    let lent = Lent { list, count, table: &table, texture: &[] };
     let aim = Aim { original: &original, reach: REACH };
     let mut samples = vec![0; original.len()];
     let mut records = vec![Record::default(); RECORDS_LENT];
     let empty = Sheet::new(n, scene::SIDE as u32, scene::SIDE as u32)?;
     let (sheet, written) = empty.compose(&mut samples, &lent, &aim, &mut records)?;
     let mut file = vec![0; 80 + 4 * table.len() + 32 * written];
-    let length = write(&sheet, &list, list.len(), &table, &records, &mut file)?;
+    let length = write(&sheet, list, count, &table, &records, &mut file)?;
     file.truncate(length);
     Ok(Composed { file, samples, records: written })
 }
@@ -54,7 +56,7 @@ fn main() -> std::io::Result<()> {
     save("first.txt", FIRST.as_bytes())?;
     save("first.shown.txt", FIRST_SHOWN.as_bytes())?;
     save("scene.original.txt", scene_shown(&original).as_bytes())?;
-    for n in [8, 4] {
+    for n in [16, 8, 4] {
         let Composed { file, samples, records } = composed(n).expect("the scene is sound");
         save(&format!("scene-{n}.txt"), &file)?;
         save(&format!("scene-{n}.shown.txt"), scene_shown(&samples).as_bytes())?;
