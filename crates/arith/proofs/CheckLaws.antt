@@ -1,9 +1,10 @@
--- Refusals in order: what follows where no check fails, and the answer in each case. Assumes nothing.
+-- Refusals in order: what follows where no check fails, and the answer in each case.
 use Prim.Native.Nat.{ℕ, zero, suc}
 use mathlib.Core.Path.{_≡_, refl, ap₂, _∙_}
 use mathlib.Core.Bool.{Bool, true, false}
+use mathlib.Core.List.{List, [], _∷_}
 use native.Mathlib.Omega.{arith}
-use Rattle.arith.specs.Checks.{unless, refused, given, answer, lent}
+use Rattle.arith.specs.Checks.{unless, refusal, Hold, Answer, refused, given, answer, lent, refusalOf}
 
 -- no refusal: the check holds, and none after it fails
 pub passed : (b : Bool) (k rest : ℕ) → unless b (suc k) rest ≡ 0 → (b ≡ true) × (rest ≡ 0)
@@ -18,6 +19,23 @@ failed k rest e = rw e
 pub checked : (k : ℕ) {t r s : ℕ} {a b : Bool} → t ≡ unless b k r → b ≡ a → r ≡ s → t ≡ unless a k s
 checked k e f g = e ∙ ap₂ (λ (x : Bool) (y : ℕ). unless x k y) f g
 
+-- no check of a list fails: all hold, and nothing after them fails
+pub holds : (l : List (Bool × ℕ)) (rest : ℕ) → refusal l rest ≡ 0 → Hold l × (rest ≡ 0)
+holds [] rest h = (tt, h)
+holds ((true, k) ∷ l) rest h = let p = holds l rest h in ((refl, p .0), p .1)
+holds ((false, k) ∷ l) rest h = absurd (omega arith)
+
+-- all hold: what comes after decides
+pub passes : (l : List (Bool × ℕ)) (rest : ℕ) → Hold l → refusal l rest ≡ rest
+passes [] rest h = refl
+passes ((b, k) ∷ l) rest h = rw (h .0) (passes l rest (h .1))
+
+-- one fails: what comes after does not matter
+pub kept : (l : List (Bool × ℕ)) (rest : ℕ) → (refusal l 0 ≡ 0 → ⊥) → refusal l rest ≡ refusal l 0
+kept [] rest h = absurd (h refl)
+kept ((true, k) ∷ l) rest h = kept l rest h
+kept ((false, k) ∷ l) rest h = refl
+
 module _ {A : Type 0} where
   pub answer-refused : (k : ℕ) (a : A) → (k ≡ 0 → ⊥) → refused k ≡ answer k a
   answer-refused zero a h = absurd (h refl)
@@ -25,6 +43,13 @@ module _ {A : Type 0} where
 
   pub answer-given : (k : ℕ) (a : A) → k ≡ 0 → given a ≡ answer k a
   answer-given k a e = rw e
+
+  -- the answer of a call that has worked out the number t, with b in hand
+  pub refused-by : {t k : ℕ} (a : A) → t ≡ k → (t ≡ 0 → ⊥) → refused t ≡ answer k a
+  refused-by {t} a e h = rw (← e) (answer-refused t a h)
+
+  pub given-by : {t k : ℕ} {a b : A} → t ≡ k → t ≡ 0 → b ≡ a → given b ≡ answer k a
+  given-by e h v = rw (← e, h, v)
 
   pub lent-refused : (k : ℕ) (new old : A) → (k ≡ 0 → ⊥) → old ≡ lent k new old
   lent-refused zero new old h = absurd (h refl)
@@ -42,3 +67,8 @@ module _ {A : Type 0} where
   pub refused-means : (k number : ℕ) (a : A) → answer k a ≡ refused number → (number ≡ k) × (k ≡ 0 → ⊥)
   refused-means zero number a e = absurd (let z : _≡_ {A = ℕ} 0 1 = cc in omega arith)
   refused-means (suc k) number a e = (cc, λ z. omega arith)
+
+  -- the number of an answer is that of the check that failed
+  pub answer-number : (k : ℕ) (a : A) → refusalOf (answer k a) ≡ k
+  answer-number zero a = refl
+  answer-number (suc k) a = refl

@@ -1,11 +1,23 @@
--- Refusals in order, and what a call answers and leaves behind. Assumes nothing.
-use Prim.Native.Nat.{ℕ, zero, suc}
+-- Refusals in order, and what a call answers and leaves behind.
+use Prim.Native.Nat.{ℕ, zero, suc, _-_}
 use mathlib.Core.Bool.{Bool, true, false}
+use mathlib.Core.List.{List, [], _∷_}
+use mathlib.Core.Path.{_≡_}
 
 -- a check with the number of its refusal, and what the checks after it say; 0 is no refusal
 abbrev pub unless : Bool → ℕ → ℕ → ℕ
 unless true number rest = rest
 unless false number rest = number
+
+-- checks in order, each with the number of its refusal, which is not 0: the number of the first that fails, else what comes after
+abbrev pub refusal : List (Bool × ℕ) → ℕ → ℕ
+refusal [] rest = rest
+refusal (c ∷ l) rest = unless (c .0) (suc (c .1 - 1)) (refusal l rest)
+
+-- every check holds
+abbrev pub Hold : List (Bool × ℕ) → Type 0
+Hold [] = Unit {0}
+Hold (c ∷ l) = (c .0 ≡ true) × Hold l
 
 -- what a call answers: the number of a refusal, or what it gives
 pub data Answer (A : Type 0) : Type 0 where
@@ -21,3 +33,8 @@ answer (suc k) a = refused (suc k)
 abbrev pub lent : {A : Type 0} → ℕ → A → A → A
 lent zero new old = new
 lent (suc k) new old = old
+
+-- the number of an answer's refusal, 0 where it gives something
+abbrev pub refusalOf : {A : Type 0} → Answer A → ℕ
+refusalOf (refused number) = number
+refusalOf (given a) = 0
