@@ -1,4 +1,4 @@
--- Laws of numbers as rows of bits. Assumes nothing.
+-- Laws of numbers as rows of bits.
 use Prim.Native.Nat.{ℕ, zero, suc, _+_, _-_, _*_, _/_, _%_, _^_, _≤_, _<_}
 use mathlib.Core.Bool.{Bool, true, false, not}
 use mathlib.Core.Path.{_≡_, refl, sym, ap, ap₂, _∙_, subst}

@@ -1,4 +1,4 @@
--- Truth values. Assumes nothing.
+-- Truth values.
 use mathlib.Core.Path.{_≡_, refl, sym, subst}
 use mathlib.Core.Bool.{Bool, true, false, _&&_, _||_}
 use mathlib.Core.Logic.{_⊎_, inl, inr}

@@ -1,10 +1,13 @@
 -- Refusals in order: what follows where no check fails, and the answer in each case.
-use Prim.Native.Nat.{ℕ, zero, suc}
-use mathlib.Core.Path.{_≡_, refl, ap₂, _∙_}
-use mathlib.Core.Bool.{Bool, true, false}
+use Prim.Native.Nat.{ℕ, zero, suc, _-_}
+use mathlib.Core.Path.{_≡_, refl, sym, ap₂, _∙_}
+use mathlib.Core.Bool.{Bool, true, false, not}
 use mathlib.Core.List.{List, [], _∷_}
 use native.Mathlib.Omega.{arith}
-use Rattle.arith.specs.Checks.{unless, refusal, Hold, Answer, refused, given, answer, lent, refusalOf}
+use borrow.Author.Tests.{not-true, eqb-false}
+use lib.Dec.{eqb}
+use Rattle.arith.proofs.Bools.{both-of}
+use Rattle.arith.specs.Checks.{unless, refusal, Hold, elsewhere, Answer, refused, given, answer, lent, refusalOf}
 
 -- no refusal: the check holds, and none after it fails
 pub passed : (b : Bool) (k rest : ℕ) → unless b (suc k) rest ≡ 0 → (b ≡ true) × (rest ≡ 0)
@@ -35,6 +38,15 @@ pub kept : (l : List (Bool × ℕ)) (rest : ℕ) → (refusal l 0 ≡ 0 → ⊥)
 kept [] rest h = absurd (h refl)
 kept ((true, k) ∷ l) rest h = kept l rest h
 kept ((false, k) ∷ l) rest h = refl
+
+-- a number that none of the checks has comes from what is after them
+pub later : (l : List (Bool × ℕ)) (rest m : ℕ) → elsewhere m l ≡ true → refusal l rest ≡ m → Hold l × (rest ≡ m)
+later [] rest m h e = (tt, e)
+later ((true, k) ∷ l) rest m h e =
+    let p = later l rest m (both-of (not (eqb (suc (k - 1)) m)) (elsewhere m l) h .1) e in
+    ((refl, p .0), p .1)
+later ((false, k) ∷ l) rest m h e =
+    absurd (eqb-false (suc (k - 1)) m (not-true _ (both-of (not (eqb (suc (k - 1)) m)) (elsewhere m l) h .0)) e)
 
 module _ {A : Type 0} where
   pub answer-refused : (k : ℕ) (a : A) → (k ≡ 0 → ⊥) → refused k ≡ answer k a
@@ -67,6 +79,13 @@ module _ {A : Type 0} where
   pub refused-means : (k number : ℕ) (a : A) → answer k a ≡ refused number → (number ≡ k) × (k ≡ 0 → ⊥)
   refused-means zero number a e = absurd (let z : _≡_ {A = ℕ} 0 1 = cc in omega arith)
   refused-means (suc k) number a e = (cc, λ z. omega arith)
+
+  -- what is given, is one thing only, and is not refused
+  pub given-same : {a b : A} → given a ≡ given b → a ≡ b
+  given-same {a} {b} e = given-means 0 a b e .1
+
+  pub given-never : {X : Type 0} {k : ℕ} {a : A} → refused k ≡ given a → X
+  given-never {k = k} {a = a} e = absurd (refused-means 0 k a (sym e) .1 refl)
 
   -- the number of an answer is that of the check that failed
   pub answer-number : (k : ℕ) (a : A) → refusalOf (answer k a) ≡ k

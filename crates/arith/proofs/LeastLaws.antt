@@ -1,4 +1,4 @@
--- The first least: there is one and only one, and `leastTo` finds it. Assumes nothing.
+-- The first least: there is one and only one, and `leastTo` finds it.
 use Prim.Native.Nat.{ℕ, zero, suc, _+_, _≤_, _<_}
 use mathlib.Core.Path.{_≡_, refl, subst⁻¹}
 use mathlib.Core.Bool.{Bool, true, false, cond}

@@ -1,4 +1,4 @@
--- Laws of lists built by index, and of loops that fill them. Assumes nothing.
+-- Laws of lists built by index, and of loops that fill them.
 use Prim.Native.Nat.{ℕ, zero, suc, _+_, _≤_, _<_}
 use mathlib.Core.Path.{_≡_, refl, sym, ap, ap₂, _∙_}
 use mathlib.Core.Bool.{true}

@@ -1,4 +1,4 @@
--- Laws of n rows of n places, and of transposing them. Assumes nothing.
+-- Laws of n rows of n places, and of transposing them.
 use Prim.Native.Nat.{ℕ, zero, suc, _+_, _*_, _/_, _%_, _≤_, _<_}
 use mathlib.Core.Path.{_≡_, sym, ap, _∙_}
 use mathlib.Core.List.{List}

@@ -1,4 +1,4 @@
--- Laws of sums. Assumes nothing.
+-- Laws of sums.
 use Prim.Native.Nat.{ℕ, zero, suc, _+_, _*_, _≤_, _<_}
 use mathlib.Core.Path.{_≡_, refl, sym, ap, ap₂, _∙_}
 use native.Mathlib.Nat.{add-zero, add-suc, zero-mul, suc-mul}

@@ -1,4 +1,4 @@
--- A natural number as a row of bits, lowest first. Assumes nothing.
+-- A natural number as a row of bits, lowest first.
 use Prim.Native.Nat.{ℕ, zero, suc, _+_, _*_, _/_, _%_, _^_}
 use mathlib.Core.Bool.{Bool, true, false}
 use lib.Dec.{eqb}

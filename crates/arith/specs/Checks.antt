@@ -1,8 +1,9 @@
 -- Refusals in order, and what a call answers and leaves behind.
 use Prim.Native.Nat.{ℕ, zero, suc, _-_}
-use mathlib.Core.Bool.{Bool, true, false}
+use mathlib.Core.Bool.{Bool, true, false, not, _&&_}
 use mathlib.Core.List.{List, [], _∷_}
 use mathlib.Core.Path.{_≡_}
+use lib.Dec.{eqb}
 
 -- a check with the number of its refusal, and what the checks after it say; 0 is no refusal
 abbrev pub unless : Bool → ℕ → ℕ → ℕ
@@ -18,6 +19,11 @@ refusal (c ∷ l) rest = unless (c .0) (suc (c .1 - 1)) (refusal l rest)
 abbrev pub Hold : List (Bool × ℕ) → Type 0
 Hold [] = Unit {0}
 Hold (c ∷ l) = (c .0 ≡ true) × Hold l
+
+-- no check has the number m
+abbrev pub elsewhere : ℕ → List (Bool × ℕ) → Bool
+elsewhere m [] = true
+elsewhere m (c ∷ l) = not (eqb (suc (c .1 - 1)) m) && elsewhere m l
 
 -- what a call answers: the number of a refusal, or what it gives
 pub data Answer (A : Type 0) : Type 0 where

@@ -1,4 +1,4 @@
--- The distance of two numbers, and a number clamped to a range. Assumes nothing.
+-- The distance of two numbers, and a number clamped to a range.
 use Prim.Native.Nat.{ℕ, suc, _+_, _-_, min}
 use lib.IntN.{ℤ, pos, negsuc}
 

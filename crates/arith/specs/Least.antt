@@ -1,4 +1,4 @@
--- The first least of a function over 0 .. n: as a statement and as a function. Assumes nothing.
+-- The first least of a function over 0 .. n: as a statement and as a function.
 use Prim.Native.Nat.{ℕ, zero, suc, _≤_, _<_}
 use mathlib.Core.Bool.{cond}
 use lib.Dec.{ltb}

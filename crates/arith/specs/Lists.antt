@@ -1,4 +1,4 @@
--- Lists built by index, and whether two lists are equal. Assumes nothing.
+-- Lists built by index, and whether two lists are equal.
 use Prim.Native.Nat.{ℕ, zero, suc}
 use mathlib.Core.Bool.{Bool, true, false, _&&_}
 use mathlib.Core.List.{List, [], _∷_, _++_}

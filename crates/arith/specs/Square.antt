@@ -1,4 +1,4 @@
--- n rows of n places in one row, row by row. Assumes nothing.
+-- n rows of n places in one row, row by row.
 use Prim.Native.Nat.{ℕ, _+_, _*_, _/_, _%_}
 use mathlib.Core.List.{List}
 use lib.ListN.{getD}

@@ -1,4 +1,4 @@
--- Sums over an index. Assumes nothing.
+-- Sums over an index.
 use Prim.Native.Nat.{ℕ, zero, suc, _+_}
 
 -- f 0 + f 1 + .. + f (k - 1)

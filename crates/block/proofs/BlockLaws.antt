@@ -1,4 +1,4 @@
--- Laws of blocks, over the capacity m and the size n. Assumes nothing.
+-- Laws of blocks, over the capacity m and the size n.
 use Prim.Native.Nat.{ℕ, _*_, _/_, _%_, _≤_, _<_}
 use mathlib.Core.List.{List, []}
 use mathlib.Core.Path.{_≡_, sym, ap, _∙_}

@@ -1,4 +1,4 @@
--- A block is n rows of n samples, kept in m rows of m places (m is the capacity) and filled up to n; the other places are 0. Assumes nothing.
+-- A block is n rows of n samples, kept in m rows of m places (m is the capacity) and filled up to n; the other places are 0.
 use Prim.Native.Nat.{ℕ, _*_, _/_, _%_}
 use mathlib.Core.List.{List, []}
 use lib.ListN.{getD, replicate}

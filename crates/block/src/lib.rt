@@ -4,5 +4,5 @@ mod rows;
 pub use rows::Block;
 pub use rows::CAPACITY;
 pub use rows::block_of;
-pub use rows::transposed;
+pub use rows::transpose;
 pub use rows::write_block;

@@ -6,7 +6,7 @@ ghost use Rattle.arith.specs.Lists.{upto};
 ghost use Rattle.arith.specs.Square.{place};
 ghost use Rattle.block.specs.Block.{capacity, sample, blockOf, transposedBlock, samplesOf};
 ghost use Rattle.pattern.specs.Answer.{samplesRefusal};
-ghost use Rattle.block.specs.Answer.{blockAnswer, transposedAnswer, samplesAfter};
+ghost use Rattle.block.specs.Answer.{blockAfter, sizeRefusal, transposedAfter, samplesAfter};
 use pattern::samples_refusal;
 use pattern::size_ok;
 
@@ -40,14 +40,18 @@ fn rows_of(n: usize, samples: &[u8]) -> Block
     b
 }
 
-// The block of n * n samples that come row by row; a refused block (`samples_refusal` has the number) is all 0.
-pub fn block_of(n: usize, samples: &[u8]) -> Block
-    ensures { λ r. ⌜ r ≡ blockAnswer n (now (samples .entry)) ⌝ }
+// Makes b the block of n * n samples that come row by row; the answer is the refusal, 1 or 2, which alters nothing, or 0.
+pub fn block_of(n: usize, samples: &[u8], b: &mut Block) -> u8
+    ensures { λ r.
+        let s = now (samples .entry) in
+        ⌜ (r ≡ samplesRefusal n (length s)) × (now (b .exit) ≡ blockAfter n s (now (b .entry))) ⌝ }
 {
-    if samples_refusal(n, samples.len()) != 0 {
-        return [[0u8; CAPACITY]; CAPACITY];
+    let refusal = samples_refusal(n, samples.len());
+    if refusal != 0 {
+        return refusal;
     }
-    rows_of(n, samples)
+    *b = rows_of(n, samples);
+    0
 }
 
 // Column x of a block.
@@ -74,14 +78,15 @@ fn columns_of(n: usize, b: Block) -> Block
     t
 }
 
-// The block transposed over its main diagonal; a size that is refused gives the block back.
-pub fn transposed(n: usize, b: Block) -> Block
-    ensures { λ r. ⌜ r ≡ transposedAnswer n b ⌝ }
+// Transposes the block over its main diagonal; the answer is refusal 1, which alters nothing, or 0.
+pub fn transpose(n: usize, b: &mut Block) -> u8
+    ensures { λ r. ⌜ (r ≡ sizeRefusal n) × (now (b .exit) ≡ transposedAfter n (now (b .entry))) ⌝ }
 {
     if !size_ok(n) {
-        return b;
+        return 1;
     }
-    columns_of(n, b)
+    *b = columns_of(n, *b);
+    0
 }
 
 // The samples of a block row by row, written to the lent slice.
@@ -96,7 +101,9 @@ fn put_samples(n: usize, b: Block, samples: &mut [u8])
 
 // The samples of a block row by row, written to the lent slice; the answer is the refusal, 0 for none.
 pub fn write_block(n: usize, b: Block, samples: &mut [u8]) -> u8
-    ensures { λ r. ⌜ (r ≡ samplesRefusal n (length (now (samples .entry)))) × (now (samples .exit) ≡ samplesAfter n b (now (samples .entry))) ⌝ }
+    ensures { λ r.
+        let old = now (samples .entry) in
+        ⌜ (r ≡ samplesRefusal n (length old)) × (now (samples .exit) ≡ samplesAfter n b old) ⌝ }
 {
     let refusal = samples_refusal(n, samples.len());
     if refusal != 0 {

@@ -1,4 +1,4 @@
--- The answer of a choice: the refusal, or the record that was picked, which is the one of least cost. Assumes nothing.
+-- The answer of a choice: the refusal, or the record that was picked, which is the one of least cost.
 use Prim.Native.Nat.{ℕ, _*_, _/_, _%_, _≤_, _<_}
 use mathlib.Core.Path.{_≡_, sym, ap, ap₂, subst, _∙_}
 use mathlib.Core.Bool.{Bool, true, false, cond}
@@ -10,10 +10,10 @@ use mir.Val.{SFits}
 use Rattle.arith.specs.Checks.{Answer, refused, given, answer}
 use Rattle.arith.proofs.CheckLaws.{answer-refused, answer-given}
 use Rattle.arith.proofs.LeastLaws.{leastTo-first}
-use Rattle.side_cost.specs.Offset.{offset}
-use Rattle.choice_checks.specs.Case.{Case}
-use Rattle.choice_checks.specs.Refusal.{chooseRefusal}
-use Rattle.choice.specs.Record.{Record}
+use Rattle.choice.specs.Offset.{offset}
+use Rattle.choice.specs.Case.{Case}
+use Rattle.choice.specs.Refusal.{chooseRefusal}
+use Rattle.record.specs.declared.Record.{Record}
 use Rattle.choice.specs.Search.{trialCost, bestTrial, bestCost, patternAt, recordBy, recordAt, chosen}
 use Rattle.choice.specs.Picked.{PickedOf}
 use Rattle.choice.specs.Answer.{chooseAnswer, LeastGiven}

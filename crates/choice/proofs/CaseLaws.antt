@@ -1,4 +1,4 @@
--- A partition's depth is that of its case. Assumes nothing.
+-- A partition's depth is that of its case.
 use Prim.Native.Nat.{ℕ, suc, _+_, _-_, _*_, _/_, _%_, _^_, _≤_, _<_}
 use mathlib.Core.Path.{_≡_, refl, sym, ap, ap₂, _∙_}
 use mathlib.Core.Bool.{Bool, true, false, cond}
@@ -8,17 +8,21 @@ use native.Mathlib.Omega.{arith}
 use lib.Dec.{eqb, leb}
 use lib.ListN.{length}
 use lib.Pow.{pow-mono}
-use borrow.Author.Tests.{lt-ltb}
+use borrow.Author.Tests.{lt-ltb, le-leb, lt-leb}
 use Rattle.arith.specs.Bits.{bit, testBit}
-use Rattle.arith.specs.Checks.{lent}
-use Rattle.arith.proofs.BitLaws.{bit-test, low-bit, high-bit, bit-past}
+use Rattle.arith.specs.Checks.{Answer, given, answer}
+use Rattle.arith.proofs.BitLaws.{low-bit, high-bit, bit-past}
+use Rattle.arith.proofs.CheckLaws.{answer-given}
 use Rattle.pattern.specs.Pattern.{mark}
-use Rattle.pattern.specs.Size.{sizeOk}
+use Rattle.pattern.specs.Size.{greatestSize, sizeOk}
+use Rattle.pattern.specs.Words.{patternNumber, usedNumber}
+use Rattle.pattern.specs.declared.words.Pattern.{Pattern}
+use Rattle.pattern.proofs.WordLaws.{used-is}
 use Rattle.pattern.proofs.SizeLaws.{size-bounds}
-use Rattle.sides.specs.Sides.{differ, vertEdge, horEdge, ltBy, brBy, lt, br, sideDepth}
-use Rattle.sides.specs.Answer.{sidesRefusal}
-use Rattle.sides.proofs.CallLaws.{sides-pass}
-use Rattle.sides.proofs.SideLaws.{origin-bit, vert-edge-bits, hor-edge-bits}
+use Rattle.prediction.specs.Sides.{differ, vertEdge, horEdge, ltBy, brBy, lt, br, sideDepth}
+use Rattle.prediction.specs.SideAnswer.{sidesRefusal, sidesAnswer}
+use Rattle.prediction.proofs.SideCallLaws.{sides-pass}
+use Rattle.prediction.proofs.SideLaws.{origin-bit, vert-edge-bits, hor-edge-bits}
 use Rattle.choice.specs.Cases.{sideCase, rowWord, cornerWord, depthIn}
 
 -- ---- the pattern of a case
@@ -44,12 +48,6 @@ differ-back true true = refl
 differ-back true false = refl
 differ-back false true = refl
 differ-back false false = refl
-
-differ-twice : (a b : Bool) → differ (differ a b) b ≡ a
-differ-twice true true = refl
-differ-twice true false = refl
-differ-twice false true = refl
-differ-twice false false = refl
 
 module _ (n : ℕ) (low : 4 ≤ n) (v h : Bool) where
   abbrev d : Bool
@@ -87,9 +85,6 @@ module _ (n : ℕ) (low : 4 ≤ n) (v h : Bool) where
       high-bit (n - 1) (bit d) (bit h) ((n - 1) * n) digit-in (omega arith)
       ∙ bit-past 1 (bit d) ((n - 1) * n - (n - 1)) (digit-lt d) (omega arith)
 
-  row-mark : mark n w 0 0 ≡ h
-  row-mark = origin-bit n w ∙ row-origin
-
   row-vert : vertEdge n w ≡ v
   row-vert = vert-edge-bits n w ∙ ap₂ differ row-origin row-end ∙ differ-back v h
 
@@ -97,11 +92,9 @@ module _ (n : ℕ) (low : 4 ≤ n) (v h : Bool) where
   row-hor = hor-edge-bits n w ∙ ap₂ differ row-origin row-below ∙ none-differ h
 
   -- its depths: of the side that holds (0,0), and of the other
-  row-depth : (s : List ℕ) (b : Bool) → sideDepth n w s (differ b h) ≡ cond b (brBy n s v h) (ltBy n s v h)
-  unfolding sideDepth lt br
-  row-depth s b =
-      let e = ap (differ (differ b h)) row-mark ∙ differ-twice b h in
-      λ i. cond (e i) (brBy n s (row-vert i) (row-hor i)) (ltBy n s (row-vert i) (row-hor i))
+  row-depth : (s : List ℕ) (b : Bool) → cond b (br n w s) (lt n w s) ≡ cond b (brBy n s v h) (ltBy n s v h)
+  unfolding lt br
+  row-depth s b = λ i. cond b (brBy n s (row-vert i) (row-hor i)) (ltBy n s (row-vert i) (row-hor i))
 
 -- the depths of a case's pattern are not refused
 pub corner-passes : (n : ℕ) (s : List ℕ) (k : ℕ) → sizeOk n ≡ true → length s ≡ 4 * n → sidesRefusal n (cornerWord n k) s ≡ 0
@@ -154,22 +147,29 @@ pub other-case : (n w : ℕ) {k : ℕ} → k ≡ sideCase n w false → (k + 4) 
 unfolding sideCase
 other-case n w e = ap (λ (x : ℕ). (x + 4) % 8) e ∙ other-by (mark n w 0 0) (vertEdge n w) (horEdge n w)
 
--- the depth as the code looks it up, by the pattern of the case
-pub depth-by :
-    (n : ℕ) (s : List ℕ) (k : ℕ) {w d a : ℕ} → sizeOk n ≡ true → length s ≡ 4 * n → w ≡ cornerWord n k → a ≡ bit (differ (leb 4 k) (eqb (k % 2) 1))
-    → d ≡ lent (sidesRefusal n w s) (sideDepth n w s (eqb a 1)) 0 → d ≡ depthIn n s k
+-- the depths as the code looks them up, by a pattern p of the case
+pub corner-depths :
+    (n : ℕ) (s : List ℕ) (k : ℕ) (p : Pattern) {x : Answer (ℕ × ℕ)} → sizeOk n ≡ true → length s ≡ 4 * n → p .w0 < 2 ^ 64
+    → patternNumber p ≡ cornerWord n k → x ≡ sidesAnswer n (usedNumber n p) s → x ≡ given (lt n (cornerWord n k) s, br n (cornerWord n k) s)
+unfolding sidesAnswer
+corner-depths n s k p ok e narrow ew ex =
+    let l = row-lt n (size-bounds n ok .0) (eqb (k / 2 % 2) 1) (eqb (k % 2) 1) in
+    let u = used-is n p narrow (rw ew l) ∙ ew in
+    ex ∙ ap (λ (w : ℕ). answer (sidesRefusal n w s) (lt n w s, br n w s)) u ∙ sym (answer-given _ _ (corner-passes n s k ok e))
+
+pub depth-far : (n : ℕ) (s : List ℕ) (k : ℕ) {d : ℕ} → 4 ≤ k → d ≡ br n (cornerWord n k) s → d ≡ depthIn n s k
 unfolding depthIn
-depth-by n s k {w} {d} {a} ok e ew ea ed =
-    let m = differ (leb 4 k) (eqb (k % 2) 1) in
-    ed
-    ∙ ap₂ (λ (x : ℕ) (b : Bool). lent (sidesRefusal n x s) (sideDepth n x s b) 0) ew (ap (λ (x : ℕ). eqb x 1) ea ∙ bit-test m)
-    ∙ ap (λ (x : ℕ). lent x (sideDepth n (cornerWord n k) s m) 0) (corner-passes n s k ok e)
+depth-far n s k h e = rw (le-leb 4 k h) e
+
+pub depth-near : (n : ℕ) (s : List ℕ) (k : ℕ) {d : ℕ} → k < 4 → d ≡ lt n (cornerWord n k) s → d ≡ depthIn n s k
+unfolding depthIn
+depth-near n s k h e = rw (lt-leb 4 k h) e
 
 -- the first row as the code makes it, from two digits
-row-small : (n : ℕ) → n ≤ 16 → 2 ^ (n - 1) ≤ 32768
+row-small : (n : ℕ) → n ≤ greatestSize → 2 ^ (n - 1) ≤ 32768
 row-small n h = pow-mono {i = n - 1} {j = 15} (omega arith)
 
-module _ (n : ℕ) (high : n ≤ 16) (v h : Bool) {o e : ℕ} (eo : o ≡ bit (differ h false)) (ee : e ≡ bit (differ v h)) where
+module _ (n : ℕ) (high : n ≤ greatestSize) (v h : Bool) {o e : ℕ} (eo : o ≡ bit (differ h false)) (ee : e ≡ bit (differ v h)) where
   shifted : e * 2 ^ (n - 1) % 2 ^ 64 ≡ bit (differ v h) * 2 ^ (n - 1)
   shifted =
       ap (λ (x : ℕ). x * 2 ^ (n - 1) % 2 ^ 64) ee

@@ -1,4 +1,4 @@
--- The least-cost law: `chosen` is the record of least cost, and there is no other. Assumes nothing.
+-- The least-cost law: `chosen` is the record of least cost, and there is no other.
 use Prim.Native.Nat.{ℕ, zero, suc, _+_, _*_, _≤_, _<_}
 use mathlib.Core.Path.{_≡_, refl, sym, ap, ap₂, _∙_}
 use mathlib.Core.Bool.{Bool, true, false}
@@ -9,15 +9,16 @@ use lib.ListN.{length}
 use Rattle.arith.specs.Checks.{answer}
 use Rattle.arith.specs.Least.{First, leastTo}
 use Rattle.arith.proofs.LeastLaws.{leastTo-first}
-use Rattle.side_cost.specs.Offset.{InReach, trial, offset}
-use Rattle.choice_checks.specs.Case.{Case}
+use Rattle.choice.specs.Offset.{InReach, trial, offset}
+use Rattle.choice.specs.Case.{Case}
 use Rattle.pattern.specs.Answer.{textured}
-use Rattle.choice_checks.specs.Refusal.{chooseRefusal}
-use Rattle.choice_checks.proofs.AcceptLaws.{accepted}
-use Rattle.choice.specs.Record.{Record, PatternIn, Within, patternOf, costOf, Before, LeastRecord, OneLeast}
+use Rattle.choice.specs.Refusal.{chooseRefusal}
+use Rattle.choice.proofs.AcceptLaws.{accepted}
+use Rattle.choice.specs.Record.{PatternIn, Within, patternOf, costOf, Before, LeastRecord, OneLeast}
+use Rattle.record.specs.declared.Record.{Record}
 use Rattle.choice.specs.Search.{trialCost, bestTrial, bestCost, patternAt, lastPattern, bestPattern, recordAt, chosen}
 use Rattle.choice.specs.Answer.{chooseAnswer, LeastGiven}
-use Rattle.side_cost.proofs.OffsetLaws.{trial-offset, trial-in, in-offset, sooner-trial, same-offset}
+use Rattle.choice.proofs.OffsetLaws.{trial-offset, trial-in, in-offset, sooner-trial, same-offset}
 use Rattle.choice.proofs.SideLaws.{cost-trials}
 use Rattle.choice.proofs.NumberLaws.{parts-least, parts-first, numberOf, number-in, number-pattern, number-before, number-either, at-in, at-number}
 

@@ -1,4 +1,4 @@
--- Patterns by number, the entries first and then the contour; and the least of a cost of two parts. Assumes nothing.
+-- Patterns by number, the entries first and then the contour; and the least of a cost of two parts.
 use Prim.Native.Nat.{ℕ, zero, suc, _+_, _-_, _≤_, _<_}
 use mathlib.Core.Path.{_≡_, refl, sym}
 use mathlib.Core.Bool.{Bool, true, false, cond}
@@ -11,7 +11,7 @@ use borrow.Author.Tests.{lt-ltb, le-ltb, ltb-true}
 use Rattle.arith.specs.Least.{leastTo}
 use Rattle.arith.proofs.Bools.{clash}
 use Rattle.arith.proofs.LeastLaws.{leastTo-first}
-use Rattle.choice_checks.specs.Case.{Case}
+use Rattle.choice.specs.Case.{Case}
 use Rattle.pattern.specs.Answer.{textured}
 use Rattle.choice.specs.Record.{PatternIn, patternBy}
 use Rattle.choice.specs.Search.{patternAt, lastPattern}

@@ -1,5 +1,5 @@
 -- What the search over the patterns relies on and keeps: every pattern can be weighed, and the first of least cost so far is held with its
--- offsets. Assumes nothing.
+-- offsets.
 use Prim.Native.Nat.{ℕ, _+_, _-_, _*_, _≤_, _<_, zero-le}
 use mathlib.Core.Path.{_≡_, refl, sym, ap, ap₂, subst, _∙_}
 use mathlib.Core.Bool.{Bool, true, false, cond}
@@ -18,10 +18,10 @@ use Rattle.pattern.specs.Size.{sizeOk, wordOk}
 use Rattle.pattern.specs.Answer.{samplesRefusal, contourAnswer}
 use Rattle.pattern.specs.Contour.{threshold, contourOf}
 use Rattle.pattern.proofs.ContourLaws.{contour-lt}
-use Rattle.sides.proofs.CallLaws.{sides-pass}
-use Rattle.side_cost.specs.Trial.{TrialOf}
-use Rattle.choice_checks.specs.Case.{Case}
-use Rattle.choice_checks.proofs.AcceptLaws.{Accepted, words-at}
+use Rattle.prediction.proofs.SideCallLaws.{sides-pass}
+use Rattle.choice.specs.Trial.{TrialOf}
+use Rattle.choice.specs.Case.{Case}
+use Rattle.choice.proofs.AcceptLaws.{Accepted, words-at}
 use Rattle.choice.specs.Search.{trialCost, bestCost, patternAt, lastPattern, bestPattern}
 use Rattle.choice.specs.Picked.{blockCase, Weighable, SidesOf, PickedOf}
 

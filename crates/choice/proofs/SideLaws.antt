@@ -1,4 +1,4 @@
--- The cost of a prediction splits by partition. Assumes nothing.
+-- The cost of a prediction splits by partition.
 use Prim.Native.Nat.{ℕ, _+_, _*_}
 use mathlib.Core.Path.{_≡_, sym, ap, _∙_}
 use mathlib.Core.Bool.{Bool, true, false, cond, not}
@@ -9,13 +9,13 @@ use Rattle.arith.specs.Bits.{testBit}
 use Rattle.arith.specs.Distance.{dist}
 use Rattle.arith.proofs.Sums.{sum-ext, sum-add}
 use Rattle.arith.proofs.ListLaws.{listOf-at}
-use Rattle.sides.specs.Sides.{sideDepth}
-use Rattle.offset.specs.Offset.{levelOf}
+use Rattle.prediction.specs.Sides.{sideDepth}
+use Rattle.depth_table.specs.Offset.{levelOf}
 use Rattle.prediction.specs.Block.{sampleOf, predicted}
-use Rattle.side_cost.specs.Offset.{trial}
-use Rattle.side_cost.specs.Cost.{sideCost}
-use Rattle.side_cost.proofs.OffsetLaws.{offset-trial}
-use Rattle.choice_checks.specs.Case.{Case}
+use Rattle.choice.specs.Offset.{trial}
+use Rattle.choice.specs.Cost.{sideCost}
+use Rattle.choice.proofs.OffsetLaws.{offset-trial}
+use Rattle.choice.specs.Case.{Case}
 use Rattle.choice.specs.Record.{predictionBy, difference}
 use Rattle.choice.specs.Search.{trialCost}
 

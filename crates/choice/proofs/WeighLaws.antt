@@ -1,5 +1,5 @@
 -- What follows for a pattern that is weighed: the index of each partition's depth, and its best offset from that of its
--- samples as a pattern. Assumes nothing.
+-- samples as a pattern.
 use Prim.Native.Nat.{ℕ, _*_, _^_, _<_}
 use mathlib.Core.Path.{_≡_, sym, ap, _∙_}
 use mathlib.Core.Bool.{Bool, true, cond}
@@ -11,16 +11,16 @@ use Rattle.arith.specs.Distance.{clamped}
 use Rattle.depth_table.specs.Table.{indexOf}
 use Rattle.depth_table.proofs.TableLaws.{table-counts}
 use Rattle.depth_table.proofs.IndexLaws.{index-below}
-use Rattle.sides.specs.Sides.{sideDepth}
-use Rattle.sides.proofs.CallLaws.{sides-accepted}
-use Rattle.offset.specs.Offset.{levelOf}
-use Rattle.side_cost.specs.Offset.{offset}
-use Rattle.side_cost.specs.Cost.{sideCost}
-use Rattle.side_cost.specs.Layers.{layerAt, belowWord}
-use Rattle.side_cost.specs.Trial.{TrialOf}
-use Rattle.side_cost.specs.Turn.{offsetCost, Findable}
-use Rattle.side_cost.proofs.FindLaws.{part-lt, part-cost}
-use Rattle.side_cost.proofs.TrialLaws.{trial-of-same}
+use Rattle.prediction.specs.Sides.{sideDepth}
+use Rattle.prediction.proofs.SideCallLaws.{sides-accepted}
+use Rattle.depth_table.specs.Offset.{levelOf}
+use Rattle.choice.specs.Offset.{offset}
+use Rattle.choice.specs.Cost.{sideCost}
+use Rattle.choice.specs.Layers.{layerAt, belowWord}
+use Rattle.choice.specs.Trial.{TrialOf}
+use Rattle.choice.specs.Turn.{offsetCost, Findable}
+use Rattle.choice.proofs.FindLaws.{part-lt, part-cost}
+use Rattle.choice.proofs.TrialLaws.{trial-of-same}
 use Rattle.choice.specs.Cases.{sideCase, depthIn}
 use Rattle.choice.specs.Search.{trialCost}
 use Rattle.choice.specs.Picked.{blockCase, Weighable, Prepared}

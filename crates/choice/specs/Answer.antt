@@ -1,11 +1,11 @@
--- What `choose` answers: the refusal, or the record. Assumes nothing.
+-- What `choose` answers: the refusal, or the record.
 use Prim.Native.Nat.{ℕ}
 use Rattle.arith.specs.Checks.{Answer, refused, given, answer}
-use Rattle.choice_checks.specs.Case.{Case}
-use Rattle.choice_checks.specs.Refusal.{chooseRefusal}
-use Rattle.choice.specs.Record.{Record, LeastRecord}
+use Rattle.choice.specs.Case.{Case}
+use Rattle.choice.specs.Refusal.{chooseRefusal}
+use Rattle.choice.specs.Record.{LeastRecord}
+use Rattle.record.specs.declared.Record.{Record}
 use Rattle.choice.specs.Search.{chosen}
-use Rattle.choice.specs.declared.Best.{Best}
 use Rattle.choice.specs.declared.Choice.{Choice}
 use Rattle.choice.specs.declared.Choice.the-variants.{Chosen, Refused}
 
@@ -14,11 +14,8 @@ unfoldable pub chooseAnswer : Case → Answer (Record × ℕ)
 chooseAnswer C = answer (chooseRefusal C) (chosen C)
 
 -- document 01's number or values for each case of the code's answer
-abbrev pub bestTold : Best → Record
-bestTold b = record { kind = b .kind; entry = b .entry; off0 = b .off0; off1 = b .off1 }
-
 abbrev pub chooseTold : Choice → Answer (Record × ℕ)
-chooseTold (Chosen b) = given (bestTold b, b .cost)
+chooseTold (Chosen r cost) = given (r, cost)
 chooseTold (Refused number) = refused number
 
 -- a record that is answered is the one of least cost, first in the order between equals, and the cost is its own

@@ -1,4 +1,4 @@
--- Worked examples of the definitions, for n = 4 and document 01's table, neighbours and first seven entries. Assumes nothing.
+-- Worked examples of the definitions, for n = 4 and document 01's table, neighbours and first seven entries.
 use Prim.Native.Nat.{ℕ}
 use mathlib.Core.Path.{_≡_, refl}
 use mathlib.Core.List.{List, [], _∷_, map}
@@ -13,15 +13,16 @@ use Rattle.arith.specs.Sum.{sumTo}
 use Rattle.depth_table.specs.Table.{bytes, rising, tableOk, nearestTo, indexOf}
 use Rattle.depth_table.specs.Examples.{sampleTable}
 use Rattle.pattern.specs.Contour.{threshold, contourOf}
-use Rattle.sides.specs.Sides.{vertEdge, horEdge, ltBy, brBy, lt, br, sideDepth}
-use Rattle.offset.specs.Offset.{levelOf}
+use Rattle.prediction.specs.Sides.{vertEdge, horEdge, ltBy, brBy, lt, br, sideDepth}
+use Rattle.depth_table.specs.Offset.{levelOf}
 use Rattle.prediction.specs.Block.{sampleOf, predicted}
 use Rattle.prediction.specs.Cases.{sampleNeighbours}
-use Rattle.side_cost.specs.Offset.{offset}
-use Rattle.side_cost.specs.Cost.{sideCost}
-use Rattle.choice_checks.specs.Case.{Case, caseOf}
-use Rattle.choice_checks.specs.Refusal.{lengthsOk, wordsOk, chooseRefusal}
-use Rattle.choice.specs.Record.{Record, difference, costOf}
+use Rattle.choice.specs.Offset.{offset}
+use Rattle.choice.specs.Cost.{sideCost}
+use Rattle.choice.specs.Case.{Case, caseOf}
+use Rattle.choice.specs.Refusal.{lengthsOk, wordsOk, chooseRefusal}
+use Rattle.choice.specs.Record.{difference, costOf}
+use Rattle.record.specs.declared.Record.{Record}
 use Rattle.choice.specs.Search.{bestCost, bestPattern, chosen}
 use Rattle.choice.specs.Answer.{chooseAnswer}
 
@@ -67,7 +68,8 @@ pub answered :
     ∷ answers 1 0 (pos 1) (pos 2) 0
     ∷ refused 10
     ∷ []
-unfolding bits clamped leastTo sumTo bytes rising tableOk nearestTo indexOf threshold contourOf vertEdge horEdge ltBy brBy lt br sideDepth levelOf sideCost bestCost bestPattern chosen lengthsOk wordsOk chooseRefusal chooseAnswer
+unfolding bits clamped leastTo sumTo bytes rising tableOk nearestTo indexOf threshold contourOf
+    vertEdge horEdge ltBy brBy lt br sideDepth levelOf sideCost bestCost bestPattern chosen lengthsOk wordsOk chooseRefusal chooseAnswer
 answered = refl
 
 -- the cost of the first of these records, from its predicted block

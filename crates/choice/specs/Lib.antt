@@ -5,3 +5,11 @@ pub mod Cases
 pub mod Picked
 pub mod Answer
 pub mod Examples
+pub mod Case
+pub mod Refusal
+pub mod Offset
+pub mod Cost
+pub mod Tally
+pub mod Trial
+pub mod Layers
+pub mod Turn

@@ -1,13 +1,13 @@
--- What the search answers step by step: the best offsets of a pattern, and the best pattern. Assumes nothing.
+-- What the search answers step by step: the best offsets of a pattern, and the best pattern.
 use Prim.Native.Nat.{ℕ, _*_, _≤_, _<_}
 use mathlib.Core.Path.{_≡_}
 use mathlib.Core.Bool.{true, false}
 use mathlib.Core.List.{List, []}
 use lib.ListN.{length, getD}
 use Rattle.depth_table.specs.Table.{tableOk, indexOf}
-use Rattle.side_cost.specs.Layers.{Layered}
-use Rattle.sides.specs.Answer.{sidesRefusal}
-use Rattle.choice_checks.specs.Case.{Case, caseOf}
+use Rattle.choice.specs.Layers.{Layered}
+use Rattle.prediction.specs.SideAnswer.{sidesRefusal}
+use Rattle.choice.specs.Case.{Case, caseOf}
 use Rattle.choice.specs.Cases.{depthIn}
 use Rattle.choice.specs.Search.{bestTrial, bestCost, patternAt, bestPattern}
 

@@ -1,5 +1,5 @@
--- Document 01, "Choice": the records within the reach, what each predicts and costs, and the record of least cost. Assumes nothing.
-use Prim.Native.Nat.{ℕ, zero, suc, _*_, _≤_, _<_}
+-- Document 01, "Choice": the records within the reach, what each predicts and costs, and the record of least cost.
+use Prim.Native.Nat.{ℕ, _*_, _≤_, _<_}
 use mathlib.Core.Path.{_≡_}
 use mathlib.Core.List.{List}
 use mathlib.Core.Logic.{_⊎_}
@@ -7,17 +7,13 @@ use lib.IntN.{ℤ}
 use lib.ListN.{length, getD}
 use Rattle.arith.specs.Distance.{dist}
 use Rattle.arith.specs.Sum.{sumTo}
+use Rattle.pattern.specs.Answer.{textured}
 use Rattle.pattern.specs.Contour.{contourOf}
+use Rattle.record.specs.declared.Record.{Record}
+use Rattle.record.specs.Meaning.{kindMeaning, patternNamed}
 use Rattle.prediction.specs.Block.{predicted}
-use Rattle.side_cost.specs.Offset.{InReach, Sooner}
-use Rattle.choice_checks.specs.Case.{Case}
-
--- a record: its kind and entry, which name the pattern, and the offsets of partitions 0 and 1
-pub record Record : Type 0 where
-  pub kind : ℕ
-  pub entry : ℕ
-  pub off0 : ℤ
-  pub off1 : ℤ
+use Rattle.choice.specs.Offset.{InReach, Sooner}
+use Rattle.choice.specs.Case.{Case}
 
 -- kind 0 with an entry below the count; kind 1, the contour (document 01: the outline), entry 0, if texture is lent
 abbrev pub PatternIn : Case → ℕ → ℕ → Type 0
@@ -29,10 +25,10 @@ pub record Within (C : Case) (r : Record) : Type 0 where
   pub off0-in : InReach (C .reach) (r .off0)
   pub off1-in : InReach (C .reach) (r .off1)
 
--- a record's pattern: the one that the list has at its entry, or for kind 1 the contour of the texture
+-- a record's pattern: the one that its kind and entry name, an entry of the list or the contour of the texture
 abbrev pub patternBy : Case → ℕ → ℕ → ℕ
-patternBy C zero entry = getD (C .list) entry 0
-patternBy C (suc k) entry = contourOf (C .n) (C .texture)
+patternBy C kind entry =
+    patternNamed (contourOf (C .n) (C .texture)) (kindMeaning (C .n) (C .list) (C .count) (textured (C .texture)) kind entry .1)
 
 abbrev pub patternOf : Case → Record → ℕ
 patternOf C r = patternBy C (r .kind) (r .entry)

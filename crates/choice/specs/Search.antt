@@ -1,18 +1,18 @@
 -- Document 01, "Choice", as a function: the cost of a record is what partition 0 costs at off0 and what partition 1 costs at off1, so
--- each offset is chosen for itself, and then the pattern. Assumes nothing.
+-- each offset is chosen for itself, and then the pattern.
 use Prim.Native.Nat.{ℕ, _+_, _-_, _*_}
 use mathlib.Core.Bool.{Bool, true, false, cond}
 use lib.Dec.{ltb}
 use lib.ListN.{getD}
 use Rattle.arith.specs.Least.{leastTo}
 use Rattle.pattern.specs.Contour.{contourOf}
-use Rattle.sides.specs.Sides.{sideDepth}
-use Rattle.offset.specs.Offset.{levelOf}
-use Rattle.side_cost.specs.Offset.{offset}
-use Rattle.side_cost.specs.Cost.{sideCost}
-use Rattle.choice_checks.specs.Case.{Case}
+use Rattle.prediction.specs.Sides.{sideDepth}
+use Rattle.depth_table.specs.Offset.{levelOf}
+use Rattle.choice.specs.Offset.{offset}
+use Rattle.choice.specs.Cost.{sideCost}
+use Rattle.choice.specs.Case.{Case}
 use Rattle.pattern.specs.Answer.{textured}
-use Rattle.choice.specs.Record.{Record}
+use Rattle.record.specs.declared.Record.{Record}
 
 -- what partition m costs at the offset with the number t
 abbrev pub trialCost : Case → ℕ → Bool → ℕ → ℕ

@@ -1,16 +1,16 @@
 // The answer of a choice.
 ghost use mathlib.Core.Path.{_≡_};
 ghost use Prim.Native.Nat.{_<_, _≤_};
-ghost use Rattle.side_cost.specs.Offset.{offset};
+ghost use Rattle.choice.specs.Offset.{offset};
 ghost use Rattle.pattern.specs.Words.{patternsOf};
-ghost use Rattle.choice_checks.specs.Case.{caseOf};
+ghost use Rattle.choice.specs.Case.{caseOf};
 ghost use Rattle.choice.specs.Search.{recordBy};
-ghost use Rattle.choice.specs.Answer.{bestTold, chooseTold, chooseAnswer, LeastGiven};
-use crate::Best;
+ghost use Rattle.choice.specs.Answer.{chooseTold, chooseAnswer, LeastGiven};
 use crate::Choice;
+use crate::refusal::choose_refusal;
 use crate::search::Picked;
 use crate::search::best_pattern;
-use choice_checks::choose_refusal;
+use record::Record;
 
 // The offset with the number t: 0, -1, 1, -2, 2 and so on.
 fn offset_of(t: usize) -> i32
@@ -22,28 +22,26 @@ fn offset_of(t: usize) -> i32
 }
 
 // The record of a pattern and two offsets, from their numbers.
-fn record_of(count: usize, p: Picked) -> Best
+fn record_of(count: usize, p: Picked) -> Record
     requires { ⌜ (count ≤ 9999) × (p .trial0 < 512) × (p .trial1 < 512) ⌝ }
-    ensures { λ r. ⌜ (bestTold r ≡ recordBy count (p .number) (p .trial0) (p .trial1)) × (r .cost ≡ p .cost) ⌝ }
+    ensures { λ r. ⌜ r ≡ recordBy count (p .number) (p .trial0) (p .trial1) ⌝ }
 {
     let off0 = offset_of(p.trial0);
     let off1 = offset_of(p.trial1);
     let at = p.number;
     if at < count {
-        return Best {
+        return Record {
             kind: 0,
             entry: at as u32,
             off0,
             off1,
-            cost: p.cost,
         };
     }
-    Best {
+    Record {
         kind: 1,
         entry: 0,
         off0,
         off1,
-        cost: p.cost,
     }
 }
 
@@ -65,8 +63,14 @@ pub fn choose(
     reach: u32,
     texture: &[u8],
 ) -> Choice
-    ensures answered { λ r. ⌜ chooseTold r ≡ chooseAnswer (caseOf n (patternsOf n (now (list .entry))) count (now (border .entry)) (now (original .entry)) (now (table .entry)) reach (now (texture .entry))) ⌝ }
-    ensures least { λ r. ⌜ LeastGiven (caseOf n (patternsOf n (now (list .entry))) count (now (border .entry)) (now (original .entry)) (now (table .entry)) reach (now (texture .entry))) (chooseTold r) ⌝ }
+    ensures answered { λ r.
+        let l = patternsOf n (now (list .entry)) in
+        let C = caseOf n l count (now (border .entry)) (now (original .entry)) (now (table .entry)) reach (now (texture .entry)) in
+        ⌜ chooseTold r ≡ chooseAnswer C ⌝ }
+    ensures least { λ r.
+        let l = patternsOf n (now (list .entry)) in
+        let C = caseOf n l count (now (border .entry)) (now (original .entry)) (now (table .entry)) reach (now (texture .entry)) in
+        ⌜ LeastGiven C (chooseTold r) ⌝ }
 {
     let refusal = choose_refusal(n, list, count, border, original, table, reach, texture);
     if refusal != 0 {
@@ -82,5 +86,5 @@ pub fn choose(
         wide(reach),
         texture,
     );
-    Choice::Chosen(record_of(count, picked))
+    Choice::Chosen(record_of(count, picked), picked.cost)
 }

@@ -4,14 +4,15 @@ ghost use mathlib.Core.Bool.{true};
 ghost use Prim.Native.Nat.{_*_, _≤_, _<_};
 ghost use lib.ListN.{length};
 ghost use Rattle.arith.specs.Bits.{bit};
-ghost use Rattle.pattern.specs.Size.{sizeOk};
+ghost use Rattle.pattern.specs.Size.{greatestSize, sizeOk};
 ghost use Rattle.pattern.specs.Words.{patternNumber};
-ghost use Rattle.sides.specs.Sides.{differ};
+ghost use Rattle.prediction.specs.Sides.{differ};
 ghost use Rattle.choice.specs.Cases.{sideCase, cornerWord, depthIn};
 use depth_table::DepthValue;
 use pattern::Pattern;
 use pattern::mark_at;
 use pattern::one_word;
+use prediction::SideDepths;
 
 // 1 where two marks differ, else 0.
 fn differing(a: bool, b: bool) -> usize
@@ -26,7 +27,7 @@ fn differing(a: bool, b: bool) -> usize
 
 // The number of the case of partition m of a pattern.
 pub(crate) fn side_case(n: usize, p: Pattern, m: bool) -> usize
-    requires { ⌜ (1 ≤ n) × (n ≤ 16) ⌝ }
+    requires { ⌜ (1 ≤ n) × (n ≤ greatestSize) ⌝ }
     ensures { λ r. ⌜ (r ≡ sideCase n (patternNumber p) m) × (r < 8) ⌝ }
 {
     let origin = mark_at(p, 0);
@@ -38,7 +39,7 @@ pub(crate) fn side_case(n: usize, p: Pattern, m: bool) -> usize
 
 // The first row of a pattern of the case k: it marks (0,0) where h holds, and (n-1,0) where just one of v and h does.
 fn first_row(n: usize, k: usize) -> u64
-    requires { ⌜ (1 ≤ n) × (n ≤ 16) ⌝ }
+    requires { ⌜ (1 ≤ n) × (n ≤ greatestSize) ⌝ }
     ensures { λ r. ⌜ r ≡ cornerWord n k ⌝ }
 {
     let origin = differing(k % 2 == 1, false) as u64;
@@ -52,5 +53,13 @@ pub(crate) fn case_depth(n: usize, border: &[u8], k: usize) -> DepthValue
     ensures { λ r. ⌜ r .0 ≡ depthIn n (now (border .entry)) k ⌝ }
 {
     let p = one_word(first_row(n, k));
-    sides::side_depth(n, p, border, differing(4 <= k, k % 2 == 1) == 1)
+    match prediction::side_depths(n, p, border) {
+        SideDepths::Sides(lt, br) => {
+            if 4 <= k {
+                return br;
+            }
+            lt
+        }
+        SideDepths::Refused(_) => DepthValue(0),
+    }
 }

@@ -5,9 +5,11 @@ ghost use Prim.Native.Nat.{_+_, _-_, _*_, _<_, _≤_, _^_};
 ghost use lib.ListN.{length};
 ghost use Rattle.depth_table.specs.Table.{tableOk};
 ghost use Rattle.pattern.specs.Words.{patternNumber};
-ghost use Rattle.side_cost.specs.Layers.{Fits, Layered, Parted};
-ghost use Rattle.side_cost.specs.Trial.{Better, TrialOf};
-ghost use Rattle.side_cost.specs.Turn.{twice, Turn, UpTried, DownTried, Findable, offsetCost};
+ghost use Rattle.choice.specs.Layers.{Fits, Layered, Parted};
+ghost use Rattle.choice.specs.Trial.{Better, TrialOf};
+ghost use Rattle.choice.specs.Turn.{twice, Turn, UpTried, DownTried, Findable, offsetCost};
+use crate::layers::LAYER_WORDS;
+use crate::layers::PLANE_WORDS;
 use crate::layers::wide;
 use crate::parts::Part;
 use crate::parts::cost_at;
@@ -36,7 +38,7 @@ fn better(best: Trial, number: usize, cost: u32) -> Trial
 // Of the indices `from` to `to` - 1 the last one at whose value, plus 0 or 1, twice the samples of the part below it stay under the limit,
 // or `from` where there is none.
 fn turn(
-    below: &[u64; 1028],
+    below: &[u64; LAYER_WORDS],
     part: Part,
     limit: u32,
     table: &[u8],
@@ -77,8 +79,8 @@ fn number_down(k: usize) -> usize
 // the two levels there are next to each other as values too, the farther costs less.
 fn best_up(
     samples: &[u8],
-    below: &[u64; 1028],
-    planes: &[u64; 32],
+    below: &[u64; LAYER_WORDS],
+    planes: &[u64; PLANE_WORDS],
     part: Part,
     table: &[u8],
     at: usize,
@@ -120,8 +122,8 @@ fn best_up(
 // The best offset downward, where the cost falls toward lower values.
 fn best_down(
     samples: &[u8],
-    below: &[u64; 1028],
-    planes: &[u64; 32],
+    below: &[u64; LAYER_WORDS],
+    planes: &[u64; PLANE_WORDS],
     part: Part,
     table: &[u8],
     at: usize,
@@ -163,8 +165,8 @@ fn best_down(
 // The first offset of least cost of a part, where its depth has the given index, and its cost.
 pub(crate) fn best_of_part(
     samples: &[u8],
-    below: &[u64; 1028],
-    planes: &[u64; 32],
+    below: &[u64; LAYER_WORDS],
+    planes: &[u64; PLANE_WORDS],
     marks: Pattern,
     table: &[u8],
     index: DepthIndex,

@@ -5,15 +5,18 @@ ghost use Prim.Native.Nat.{_<_, _≤_, _^_};
 ghost use lib.Bits.{bitAnd, bitXor};
 ghost use lib.Count.{ones};
 ghost use lib.ListN.{length};
+ghost use Rattle.pattern.specs.Size.{greatestSamples};
 ghost use Rattle.pattern.specs.Words.{patternNumber};
-ghost use Rattle.side_cost.specs.Cost.{sideCost};
-ghost use Rattle.side_cost.specs.Layers.{layerAt, planeAt, Fits, Layered, Parted, flipped, partSum};
+ghost use Rattle.choice.specs.Cost.{sideCost};
+ghost use Rattle.choice.specs.Layers.{layerAt, planeAt, Fits, Layered, Parted, flipped, partSum};
+use crate::layers::LAYER_WORDS;
+use crate::layers::PLANE_WORDS;
 use pattern::Pattern;
 
 // How many samples of a part are in a layer. A part that is not wide has one word.
 fn common(p: Pattern, layer: Pattern, wide: bool) -> u32
     requires { ⌜ Fits wide (patternNumber p) ⌝ }
-    ensures { λ r. ⌜ (r ≡ ones (bitAnd (patternNumber p) (patternNumber layer))) × (r ≤ 256) ⌝ }
+    ensures { λ r. ⌜ (r ≡ ones (bitAnd (patternNumber p) (patternNumber layer))) × (r ≤ greatestSamples) ⌝ }
 {
     let first = u64::count_ones(p.w0 & layer.w0);
     if wide {
@@ -27,7 +30,7 @@ fn common(p: Pattern, layer: Pattern, wide: bool) -> u32
 // How many samples a part has.
 pub(crate) fn size_of(p: Pattern, wide: bool) -> u32
     requires { ⌜ Fits wide (patternNumber p) ⌝ }
-    ensures { λ r. ⌜ (r ≡ ones (patternNumber p)) × (r ≤ 256) ⌝ }
+    ensures { λ r. ⌜ (r ≡ ones (patternNumber p)) × (r ≤ greatestSamples) ⌝ }
 {
     if wide {
         return pattern::marks(p);
@@ -36,7 +39,7 @@ pub(crate) fn size_of(p: Pattern, wide: bool) -> u32
 }
 
 // The layer of the samples below v.
-fn below_at(below: &[u64; 1028], v: usize) -> Pattern
+fn below_at(below: &[u64; LAYER_WORDS], v: usize) -> Pattern
     requires { ⌜ v < 257 ⌝ }
     ensures { λ r. ⌜ patternNumber r ≡ layerAt (now (below .entry)) v ⌝ }
 {
@@ -50,7 +53,7 @@ fn below_at(below: &[u64; 1028], v: usize) -> Pattern
 }
 
 // The layer of the samples that have a bit, by its place in the planes.
-fn plane_at(planes: &[u64; 32], b: usize) -> Pattern
+fn plane_at(planes: &[u64; PLANE_WORDS], b: usize) -> Pattern
     requires { ⌜ b < 8 ⌝ }
     ensures { λ r. ⌜ patternNumber r ≡ planeAt (now (planes .entry)) b ⌝ }
 {
@@ -82,20 +85,26 @@ pub(crate) struct Part {
 }
 
 // How many samples of a part are below v.
-pub(crate) fn count_below(below: &[u64; 1028], part: Part, v: usize) -> u32
+pub(crate) fn count_below(below: &[u64; LAYER_WORDS], part: Part, v: usize) -> u32
     requires { ⌜ Fits (part .wide) (patternNumber (part .marks)) × (v < 257) ⌝ }
-    ensures { λ r. ⌜ (r ≡ ones (bitAnd (patternNumber (part .marks)) (layerAt (now (below .entry)) v))) × (r ≤ 256) ⌝ }
+    ensures { λ r. ⌜ (r ≡ ones (bitAnd (patternNumber (part .marks)) (layerAt (now (below .entry)) v))) × (r ≤ greatestSamples) ⌝ }
 {
     common(part.marks, below_at(below, v), part.wide)
 }
 
 // The sum of a part's samples, those below v counted from 255 down: bit by bit, the highest first.
-fn flipped_sum(samples: &[u8], below: &[u64; 1028], planes: &[u64; 32], part: Part, v: usize) -> u32
+fn flipped_sum(
+    samples: &[u8],
+    below: &[u64; LAYER_WORDS],
+    planes: &[u64; PLANE_WORDS],
+    part: Part,
+    v: usize,
+) -> u32
     requires { ⌜ Layered (now samples) (now below) (now planes)
         × (patternNumber (part .marks) < 2 ^ length (now samples))
         × Fits (part .wide) (patternNumber (part .marks))
         × (v < 256) ⌝ }
-    ensures { λ r. ⌜ r ≡ partSum (length (now (samples .entry))) (flipped (now (samples .entry)) v) (patternNumber (part .marks)) 0 ⌝ }
+    ensures { λ r. let s = now (samples .entry) in ⌜ r ≡ partSum (length s) (flipped s v) (patternNumber (part .marks)) 0 ⌝ }
 {
     let marks = part.marks;
     let wide = part.wide;
@@ -110,8 +119,8 @@ fn flipped_sum(samples: &[u8], below: &[u64; 1028], planes: &[u64; 32], part: Pa
 // What a part costs where all of its samples are predicted as v.
 pub(crate) fn cost_at(
     samples: &[u8],
-    below: &[u64; 1028],
-    planes: &[u64; 32],
+    below: &[u64; LAYER_WORDS],
+    planes: &[u64; PLANE_WORDS],
     part: Part,
     v: usize,
 ) -> u32
@@ -128,7 +137,7 @@ pub(crate) fn cost_at(
 }
 
 // The samples of a partition: the pattern's own, or all others of the block.
-pub(crate) fn side_marks(below: &[u64; 1028], p: Pattern, side: bool) -> Pattern
+pub(crate) fn side_marks(below: &[u64; LAYER_WORDS], p: Pattern, side: bool) -> Pattern
     ensures { λ r. ⌜ patternNumber r ≡ cond side (patternNumber p) (bitXor (layerAt (now (below .entry)) 256) (patternNumber p)) ⌝ }
 {
     if side {

@@ -9,32 +9,47 @@ ghost use Rattle.pattern.specs.Answer.{samplesRefusal};
 ghost use Rattle.pattern.specs.Size.{sizeOk};
 ghost use Rattle.pattern.specs.Contour.{contourOf};
 ghost use Rattle.pattern.specs.Words.{patternNumber, patternsOf};
-ghost use Rattle.side_cost.specs.Trial.{TrialOf};
-ghost use Rattle.choice_checks.specs.Case.{caseOf};
-ghost use Rattle.choice_checks.specs.Refusal.{chooseRefusal};
+ghost use Rattle.depth_table.specs.Table.{tableOk, indexOf};
+ghost use Rattle.choice.specs.Trial.{TrialOf};
+ghost use Rattle.choice.specs.Case.{caseOf};
+ghost use Rattle.choice.specs.Refusal.{chooseRefusal};
 ghost use Rattle.choice.specs.Cases.{sideCase};
 ghost use Rattle.choice.specs.Search.{trialCost};
 ghost use Rattle.choice.specs.Picked.{blockCase, Weighable, Prepared, CaseIndices, SidesOf, PickedOf};
 use crate::cases::case_depth;
 use crate::cases::side_case;
+use crate::layers::LAYER_WORDS;
+use crate::layers::PLANE_WORDS;
 use crate::layers::below_layers;
 use crate::layers::bit_planes;
 use crate::offsets::Trial;
 use crate::offsets::best_of_part;
 use crate::parts::side_marks;
 use depth_table::DepthIndex;
+use depth_table::DepthValue;
+use depth_table::Indexed;
 use pattern::Contoured;
 use pattern::Pattern;
 
+// The index of a depth.
+fn index_in(table: &[u8], d: DepthValue) -> usize
+    requires { ⌜ tableOk (now table) ≡ true ⌝ }
+    ensures { λ r. ⌜ r ≡ indexOf (now (table .entry)) (d .0) ⌝ }
+{
+    match depth_table::nearest_index(table, d) {
+        Indexed::At(index) => index.0,
+        Indexed::Refused(_) => 0,
+    }
+}
+
 // The index of the depth in each of the eight cases.
 fn case_indices(n: usize, border: &[u8], table: &[u8]) -> [usize; 8]
-    requires { ⌜ (sizeOk n ≡ true) × (length (now border) ≡ 4 * n) ⌝ }
+    requires { ⌜ (sizeOk n ≡ true) × (length (now border) ≡ 4 * n) × (tableOk (now table) ≡ true) ⌝ }
     ensures { λ r. ⌜ CaseIndices 8 n (now (border .entry)) (now (table .entry)) r ⌝ }
 {
     let mut indices = [0usize; 8];
     for k in 0..8 {
-        let index = depth_table::nearest_index(table, case_depth(n, border, k));
-        indices[k] = index.0;
+        indices[k] = index_in(table, case_depth(n, border, k));
     }
     indices
 }
@@ -49,8 +64,8 @@ fn best_offset(
     original: &[u8],
     table: &[u8],
     reach: usize,
-    below: &[u64; 1028],
-    planes: &[u64; 32],
+    below: &[u64; LAYER_WORDS],
+    planes: &[u64; PLANE_WORDS],
     indices: &[usize; 8],
 ) -> Trial
     requires { ⌜ Weighable n (patternNumber p) (now border) (now original) (now table) reach
@@ -81,8 +96,8 @@ fn best_sides(
     original: &[u8],
     table: &[u8],
     reach: usize,
-    below: &[u64; 1028],
-    planes: &[u64; 32],
+    below: &[u64; LAYER_WORDS],
+    planes: &[u64; PLANE_WORDS],
     indices: &[usize; 8],
 ) -> Sides
     requires { ⌜ Weighable n (patternNumber p) (now border) (now original) (now table) reach

@@ -3,6 +3,8 @@
 use libc::STDIN_FILENO;
 use libc::STDOUT_FILENO;
 use sheet::Composed;
+use sheet::MOST_BLOCKS;
+use sheet::MOST_SAMPLES;
 use sheet::Made;
 use sheet::Sheet;
 use wedgelet::Listed;
@@ -53,10 +55,10 @@ fn table() -> [u8; 256] {
 }
 
 // Original samples that fall into no pattern.
-fn original() -> [u8; 16384] {
-    let mut out = [0u8; 16384];
+fn original() -> [u8; MOST_SAMPLES] {
+    let mut out = [0u8; MOST_SAMPLES];
     let mut state: u64 = 1;
-    for i in 0..16384 {
+    for i in 0..MOST_SAMPLES {
         state = (state % 2147483648 * 1103515245 + 12345) % 2147483648;
         out[i] = (state / 65536 % 256) as u8;
     }
@@ -65,13 +67,10 @@ fn original() -> [u8; 16384] {
 
 // Composes the sheet with a list and its count; the number of records written.
 fn compose(sheet: Sheet, list: &[u64], count: usize, area: usize) -> usize {
-    let mut samples = [0u8; 16384];
+    let mut samples = [0u8; MOST_SAMPLES];
     let picture = original();
     let values = table();
-    let mut kinds = [0u32; 1024];
-    let mut entries = [0u32; 1024];
-    let mut offs0 = [0i32; 1024];
-    let mut offs1 = [0i32; 1024];
+    let mut records = [[0i32; 4]; MOST_BLOCKS];
     let composed = sheet.compose(
         first_mut(&mut samples, area),
         first(&picture, area),
@@ -80,10 +79,7 @@ fn compose(sheet: Sheet, list: &[u64], count: usize, area: usize) -> usize {
         &values,
         5,
         b"",
-        &mut kinds,
-        &mut entries,
-        &mut offs0,
-        &mut offs1,
+        &mut records,
     );
     match composed {
         Composed::Finished(_, written) => written,
@@ -112,7 +108,7 @@ fn written(n: u32, side: u32, area: usize) -> usize {
 fn main() {
     let bytes = asked();
     let side = side(bytes[0]);
-    let area = if side == 128 { 16384 } else { 4096 };
+    let area = if side == 128 { MOST_SAMPLES } else { 4096 };
     io::print_decimal(STDOUT_FILENO, side as u64);
     io::write_all(STDOUT_FILENO, b" ");
     io::print_decimal(STDOUT_FILENO, written(size(bytes[1]), side, area) as u64);

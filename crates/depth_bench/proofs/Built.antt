@@ -1,4 +1,4 @@
--- The list that C's calls build: its count, its patterns, and the refusals, which do not depend on it. Assumes nothing.
+-- The list that C's calls build: its count, its patterns, and the refusals, which do not depend on it.
 use Prim.Native.Nat.{ℕ, zero, suc, _*_, _/_, _^_, _≤_, _<_}
 use mathlib.Core.Bool.{Bool, true, false, cond, _&&_}
 use mathlib.Core.List.{List}
@@ -21,10 +21,11 @@ use Rattle.wedgelet.specs.Answer.{neededWords, mostWords, mostPatterns, listRef
 use Rattle.wedgelet.proofs.AnswerLaws.{patterns-enough, words-enough, built-is, built-at, list-within, wedgelets-build}
 use Rattle.wedgelet.proofs.Growth.{list-length}
 use Rattle.wedgelet.proofs.WedgeletLaws.{list-some, entry-lt}
-use Rattle.choice_checks.specs.Case.{Case, caseOf}
-use Rattle.choice_checks.specs.Refusal.{lengthsOk, wordsOk, chooseRefusal}
-use Rattle.choice_checks.proofs.AcceptLaws.{words-all, refused-size, accepted}
-use Rattle.choice.specs.Record.{Record, LeastRecord}
+use Rattle.choice.specs.Case.{Case, caseOf}
+use Rattle.choice.specs.Refusal.{lengthsOk, wordsOk, chooseRefusal}
+use Rattle.choice.proofs.AcceptLaws.{words-all, refused-size, accepted}
+use Rattle.choice.specs.Record.{LeastRecord}
+use Rattle.record.specs.declared.Record.{Record}
 use Rattle.choice.specs.Search.{chosen}
 use Rattle.choice.specs.Answer.{chooseAnswer}
 use Rattle.choice.proofs.LeastLaws.{chosen-least}

@@ -1,4 +1,4 @@
--- What `depth_bench_pattern_of` answers, kind by kind, and its words. Assumes nothing.
+-- What `depth_bench_pattern_of` answers, kind by kind, and its words.
 use Prim.Native.Nat.{ℕ, zero, suc, _*_, _^_, _≤_, _<_}
 use mathlib.Core.Bool.{Bool, true, false, or-true}
 use mathlib.Core.List.{List, [], _∷_}
@@ -100,7 +100,8 @@ marks-inside n zero entry t e =
     let b = passed (textureOk (length t) (n * n)) 1 _ (a .1) in
     let c = passed (ltb entry (length (wedgeletList n))) 5 _ (b .1) in
     ltb-true _ _ (passed (wordOk n (getD (builtList n) entry 0)) 4 0 (c .1) .0)
-marks-inside n (suc kind) entry t e = contour-lt n t
+marks-inside n (suc zero) entry t e = contour-lt n t
+marks-inside n (suc (suc kind)) entry t e = pow-pos (n * n)
 
 -- the answer for a block of at most 8 by 8 samples has the pattern in word 0, and 0 in words 1 to 3
 pub one-word-answered :

@@ -1,4 +1,4 @@
--- What C's calls stand for: a pattern handed in, a choice, and a record's pattern, with the list that they build for n. Assumes nothing.
+-- What C's calls stand for: a pattern handed in, a choice, and a record's pattern, with the list that they build for n.
 use Prim.Native.Nat.{ℕ, _*_}
 use mathlib.Core.List.{List, []}
 use lib.ListN.{length, replicate}
@@ -8,9 +8,9 @@ use Rattle.pattern.specs.Words.{usedNumber, patternsOf}
 use Rattle.pattern.specs.Answer.{textureOk, textured}
 use Rattle.wedgelet.specs.Answer.{mostWords, listAfter}
 use Rattle.wedgelet.specs.Wedgelet.{wedgeletList}
-use Rattle.choice_checks.specs.Case.{Case, caseOf}
+use Rattle.choice.specs.Case.{Case, caseOf}
 use Rattle.choice.specs.Record.{patternBy}
-use Rattle.record_checks.specs.Meaning.{kindRefusal}
+use Rattle.record.specs.Meaning.{kindRefusal}
 
 -- the pattern of n by n samples that four words handed in stand for: up to 8 by 8 word 0 alone, whatever the others hold
 abbrev pub usedWords : ℕ → ℕ → ℕ → ℕ → ℕ → ℕ

@@ -1,12 +1,13 @@
--- The structs that C gets: a refusal has its number, and 0 in the other fields. Assumes nothing.
+-- The structs that C gets: a refusal has its number, and 0 in the other fields.
 use Prim.Native.Nat.{ℕ}
 use mathlib.Core.Path.{_≡_}
 use mathlib.Core.List.{List, [], _∷_}
 use lib.IntN.{pos}
 use Rattle.arith.specs.Checks.{Answer, refused, given}
 use Rattle.pattern.specs.Words.{inFour}
-use Rattle.choice_checks.specs.Case.{Case}
-use Rattle.choice.specs.Record.{Record, LeastRecord}
+use Rattle.choice.specs.Case.{Case}
+use Rattle.choice.specs.Record.{LeastRecord}
+use Rattle.record.specs.declared.Record.{Record}
 use Rattle.depth_bench.specs.declared.Prediction.{Prediction}
 use Rattle.depth_bench.specs.declared.Choice.{Choice}
 use Rattle.depth_bench.specs.declared.Pattern.{Pattern}

@@ -11,7 +11,7 @@ ghost use Rattle.pattern.specs.Answer.{textureOk, textured};
 ghost use Rattle.pattern.specs.Contour.{contourOf};
 ghost use Rattle.wedgelet.specs.Wedgelet.{wedgeletList};
 ghost use Rattle.prediction.specs.Answer.{predictAnswer, predictBlock};
-ghost use Rattle.choice_checks.specs.Refusal.{chooseRefusal};
+ghost use Rattle.choice.specs.Refusal.{chooseRefusal};
 ghost use Rattle.choice.specs.Answer.{chooseAnswer, chooseTold};
 ghost use Rattle.depth_bench.specs.Built.{usedWords, builtList, builtCase, patternAnswer};
 ghost use Rattle.depth_bench.specs.Structs.{predictionStruct, choiceStruct, refusedChoice, LeastChoice, patternStruct};
@@ -109,13 +109,13 @@ fn told(answer: choice::Choice) -> Choice
     ensures { λ r. ⌜ r ≡ choiceStruct (chooseTold answer) ⌝ }
 {
     match answer {
-        choice::Choice::Chosen(best) => Choice {
+        choice::Choice::Chosen(best, cost) => Choice {
             refusal: 0,
             kind: best.kind,
             entry: best.entry,
             off0: best.off0,
             off1: best.off1,
-            cost: best.cost,
+            cost,
         },
         choice::Choice::Refused(number) => refused(number),
     }
@@ -136,7 +136,7 @@ fn built_refusal(
         ⌜ r ≡ chooseRefusal C ⌝ }
 {
     let blank = [0u64; WORDS];
-    choice_checks::choose_refusal(n, &blank, 1, border, original, table, reach, texture)
+    choice::choose_refusal(n, &blank, 1, border, original, table, reach, texture)
 }
 
 // The record of least cost, with the wedgelet list for n, as `choice::choose` finds it. What is refused is refused before the list is

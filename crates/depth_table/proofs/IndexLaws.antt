@@ -1,5 +1,5 @@
 -- Laws of the index of a depth: it is that of the nearest value as document 01 says, and no other is; and the steps of the loop
--- that finds it. Assumes nothing.
+-- that finds it.
 use Prim.Native.Nat.{ℕ, zero, suc, _+_, _-_, _≤_, _<_}
 use mathlib.Core.Path.{_≡_, refl, sym, ap, _∙_}
 use mathlib.Core.Bool.{Bool, true, false, cond}

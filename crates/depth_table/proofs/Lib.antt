@@ -1,3 +1,5 @@
 -- Laws of the depth table.
 pub mod TableLaws
 pub mod IndexLaws
+pub mod OffsetLaws
+pub mod LevelLaws

@@ -1,4 +1,4 @@
--- Laws of sound tables: counts, values and order; and the steps of the loop that looks whether a table rises. Assumes nothing.
+-- Laws of sound tables: counts, values and order; and the steps of the loop that looks whether a table rises.
 use Prim.Native.Nat.{ℕ, zero, suc, _+_, _≤_, _<_}
 use mathlib.Core.Path.{_≡_, refl}
 use mathlib.Core.Bool.{true, false}

@@ -1,20 +1,38 @@
--- What `index_of` answers. Assumes nothing.
+-- What the calls on a depth table answer.
 use Prim.Native.Nat.{ℕ}
-use mathlib.Core.List.{List}
-use Rattle.arith.specs.Checks.{unless, Answer, refused, given, answer}
+use mathlib.Core.List.{List, [], _∷_}
+use lib.Dec.{ltb}
+use lib.IntN.{ℤ}
+use lib.ListN.{length}
+use Rattle.arith.specs.Checks.{refusal, Answer, refused, given, answer}
 use Rattle.depth_table.specs.Table.{tableOk, indexOf}
+use Rattle.depth_table.specs.Offset.{offsetOk, valueOf}
 use Rattle.depth_table.specs.declared.Indexed.{Indexed}
-use Rattle.depth_table.specs.declared.Indexed.the-variants.{At, Refused}
+use Rattle.depth_table.specs.declared.Indexed.the-variants as indexed
+use Rattle.depth_table.specs.declared.Valued.{Valued}
+use Rattle.depth_table.specs.declared.Valued.the-variants as valued
 
--- refusal 3: the table is not sound
+-- 3: the table is not sound
 unfoldable pub indexRefusal : List ℕ → ℕ
-indexRefusal t = unless (tableOk t) 3 0
+indexRefusal t = refusal ((tableOk t, 3) ∷ []) 0
 
--- the index of the depth d, or the refusal
+-- `index_of` answers the index of the depth d
 unfoldable pub indexAnswer : List ℕ → ℕ → Answer ℕ
 indexAnswer t d = answer (indexRefusal t) (indexOf t d)
 
+-- `nearest_index` answers the same of any values; 3: there is none
+unfoldable pub nearestAnswer : List ℕ → ℕ → Answer ℕ
+nearestAnswer t d = answer (refusal ((ltb 0 (length t), 3) ∷ []) 0) (indexOf t d)
+
+-- `value_at` answers the value at an index plus an offset; 3: there is no value; 4: the offset
+unfoldable pub valueAnswer : List ℕ → ℕ → ℤ → Answer ℕ
+valueAnswer t i off = answer (refusal ((ltb 0 (length t), 3) ∷ (offsetOk off, 4) ∷ []) 0) (valueOf t i off)
+
 -- document 01's number or value for each case of the code's answer
 abbrev pub indexTold : Indexed → Answer ℕ
-indexTold (At k) = given (k .0)
-indexTold (Refused number) = refused number
+indexTold (indexed.At k) = given (k .0)
+indexTold (indexed.Refused number) = refused number
+
+abbrev pub valueTold : Valued → Answer ℕ
+valueTold (valued.At v) = given (v .0)
+valueTold (valued.Refused number) = refused number

@@ -1,4 +1,4 @@
--- Worked examples of the definitions. Assumes nothing.
+-- Worked examples of the definitions.
 use Prim.Native.Nat.{ℕ}
 use mathlib.Core.Path.{_≡_, refl}
 use mathlib.Core.Bool.{true, false}
@@ -18,7 +18,8 @@ sample-indices = refl
 
 -- sound; with equal neighbours; falling; with a value above 255; empty
 pub sample-tables :
-    map tableOk (sampleTable ∷ (100 ∷ 100 ∷ []) ∷ (128 ∷ 100 ∷ []) ∷ (100 ∷ 256 ∷ []) ∷ [] ∷ []) ≡ true ∷ false ∷ false ∷ false ∷ false ∷ []
+    map tableOk (sampleTable ∷ (100 ∷ 100 ∷ []) ∷ (128 ∷ 100 ∷ []) ∷ (100 ∷ 256 ∷ []) ∷ [] ∷ [])
+    ≡ true ∷ false ∷ false ∷ false ∷ false ∷ []
 unfolding tableOk bytes rising
 sample-tables = refl
 

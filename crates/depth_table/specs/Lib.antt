@@ -3,3 +3,4 @@ pub mod Table
 pub mod Nearest
 pub mod Answer
 pub mod Examples
+pub mod Offset

@@ -1,4 +1,4 @@
--- What document 01 says of the index of a depth, as a statement. Assumes nothing.
+-- What document 01 says of the index of a depth, as a statement.
 use Prim.Native.Nat.{ℕ, _≤_, _<_}
 use mathlib.Core.Path.{_≡_}
 use mathlib.Core.List.{List}

@@ -1,4 +1,4 @@
--- A depth table is a list of depth values: its soundness, and the index of a depth. Assumes nothing.
+-- A depth table is a list of depth values: its soundness, and the index of a depth.
 use Prim.Native.Nat.{ℕ, zero, suc, _-_}
 use mathlib.Core.Bool.{Bool, true, cond, _&&_}
 use mathlib.Core.List.{List, [], _∷_}
@@ -16,9 +16,13 @@ unfoldable pub rising : ℕ → List ℕ → Bool
 rising low [] = true
 rising low (a ∷ t) = leb low a && rising (suc a) t
 
+-- the most values of a table
+abbrev pub mostValues : ℕ
+mostValues = 256
+
 -- a sound table: 1 to 256 values, each 0 to 255, strictly rising
 unfoldable pub tableOk : List ℕ → Bool
-tableOk t = leb 1 (length t) && (leb (length t) 256 && (bytes t && rising 0 t))
+tableOk t = leb 1 (length t) && (leb (length t) mostValues && (bytes t && rising 0 t))
 
 -- of the values at 0 .. k, the index of the one nearest to d; of two equally near, the later
 unfoldable pub nearestTo : List ℕ → ℕ → ℕ → ℕ

@@ -1,8 +1,12 @@
 // The depth table (document 01, "Depth table"): depth values, depth indices, and the index of the nearest value.
+mod offset;
+
+pub use offset::offset_ok;
+pub use offset::value_at;
 ghost use mathlib.Core.Path.{_≡_};
 ghost use Rattle.arith.specs.Distance.{dist};
 ghost use Rattle.depth_table.specs.Table.{rising, tableOk, indexOf};
-ghost use Rattle.depth_table.specs.Answer.{indexAnswer, indexTold};
+ghost use Rattle.depth_table.specs.Answer.{nearestAnswer, indexAnswer, indexTold};
 
 // A depth value, 0 to 255.
 pub struct DepthValue(pub u8);
@@ -10,9 +14,15 @@ pub struct DepthValue(pub u8);
 // An index into a depth table. It never stands for a depth value.
 pub struct DepthIndex(pub usize);
 
-// What `index_of` answers: an index, or the number of its refusal.
+// What `index_of` and `nearest_index` answer: an index, or the number of the refusal.
 pub enum Indexed {
     At(DepthIndex),
+    Refused(u8),
+}
+
+// What `value_at` answers: a depth value, or the number of its refusal.
+pub enum Valued {
+    At(DepthValue),
     Refused(u8),
 }
 
@@ -47,6 +57,9 @@ fn is_rising(table: &[u8]) -> bool
     true
 }
 
+// The most values of a depth table.
+pub const VALUES: usize = 256;
+
 // Whether the slice is a sound depth table: 1 to 256 values, strictly rising.
 pub fn is_table(table: &[u8]) -> bool
     ensures { λ r. ⌜ r ≡ tableOk (now (table .entry)) ⌝ }
@@ -55,14 +68,14 @@ pub fn is_table(table: &[u8]) -> bool
     if count < 1 {
         return false;
     }
-    if count > 256 {
+    if count > VALUES {
         return false;
     }
     is_rising(table)
 }
 
-// The index of the value nearest to d; of two equally near, the later, which is the greater. 0 in an empty table.
-pub fn nearest_index(table: &[u8], d: DepthValue) -> DepthIndex
+// The index of the value nearest to d; of two equally near, the later, which in a rising table is the greater.
+fn nearest(table: &[u8], d: DepthValue) -> DepthIndex
     ensures { λ r. ⌜ r .0 ≡ indexOf (now (table .entry)) (d .0) ⌝ }
 {
     let want = d.0;
@@ -77,12 +90,22 @@ pub fn nearest_index(table: &[u8], d: DepthValue) -> DepthIndex
     DepthIndex(best)
 }
 
+// The index of the value nearest to d of any values, rising or not; or refusal 3 where there is none.
+pub fn nearest_index(table: &[u8], d: DepthValue) -> Indexed
+    ensures { λ r. ⌜ indexTold r ≡ nearestAnswer (now (table .entry)) (d .0) ⌝ }
+{
+    if table.len() == 0 {
+        return Indexed::Refused(3);
+    }
+    Indexed::At(nearest(table, d))
+}
+
 // The index of a depth, or refusal 3 where the table is not sound.
 pub fn index_of(table: &[u8], d: DepthValue) -> Indexed
     ensures { λ r. ⌜ indexTold r ≡ indexAnswer (now (table .entry)) (d .0) ⌝ }
 {
     if is_table(table) {
-        Indexed::At(nearest_index(table, d))
+        Indexed::At(nearest(table, d))
     } else {
         Indexed::Refused(3)
     }

@@ -1,4 +1,4 @@
--- The worked cases, by computation. Assumes nothing.
+-- The worked cases, by computation.
 use mathlib.Core.Path.{refl}
 use mathlib.Core.Logic.{inl}
 use native.Mathlib.Omega.{arith}
@@ -12,12 +12,12 @@ use Rattle.depth_table.specs.Table.{bytes, rising, tableOk, nearestTo, indexOf}
 use Rattle.pattern.specs.Contour.{threshold, contourOf}
 use Rattle.wedgelet.specs.Wedgelet.{candidate, wedgelet, holds, keep, ends, starts, wedgeletList}
 use Rattle.wedgelet.specs.Answer.{asBuilt}
-use Rattle.sides.specs.Sides.{vertEdge, horEdge, ltBy, brBy, lt, br, sideDepth}
-use Rattle.sides.specs.Transposed.{transposedNeighbours, endsDecide}
-use Rattle.offset.specs.Offset.{levelOf}
+use Rattle.prediction.specs.Sides.{vertEdge, horEdge, ltBy, brBy, lt, br, sideDepth}
+use Rattle.prediction.specs.Transposed.{transposedNeighbours, endsDecide}
+use Rattle.depth_table.specs.Offset.{levelOf}
 use Rattle.prediction.specs.Block.{sampleOf, predicted}
-use Rattle.side_cost.specs.Cost.{sideCost}
-use Rattle.choice_checks.specs.Refusal.{lengthsOk, wordsOk, chooseRefusal}
+use Rattle.choice.specs.Cost.{sideCost}
+use Rattle.choice.specs.Refusal.{lengthsOk, wordsOk, chooseRefusal}
 use Rattle.choice.specs.Record.{difference}
 use Rattle.choice.specs.Search.{bestCost, bestPattern, chosen}
 use Rattle.diagonal.specs.Law.{covered}

@@ -1,5 +1,5 @@
 -- The least cost and the diagonal law. The transposed case costs no more, since the chosen record has a partner there; transposed again it is the first case,
--- so that the first costs no more either. Assumes nothing.
+-- so that the first costs no more either.
 use Prim.Native.Nat.{ℕ, zero, suc, _≤_}
 use mathlib.Core.Bool.{true}
 use mathlib.Core.List.{List}
@@ -11,14 +11,15 @@ use Rattle.arith.proofs.Bools.{both-of}
 use Rattle.arith.proofs.CheckLaws.{answer-given}
 use Rattle.wedgelet.specs.Answer.{asBuilt}
 use Rattle.wedgelet.proofs.AnswerLaws.{built-is, wedgelets-build}
-use Rattle.sides.specs.Transposed.{endsDecide, EndsDecide}
-use Rattle.sides.proofs.TransposedLaws.{ends-transposed}
-use Rattle.choice_checks.specs.Case.{Case}
-use Rattle.choice_checks.specs.Refusal.{chooseRefusal}
-use Rattle.choice.specs.Record.{Record, Within, LeastRecord}
+use Rattle.prediction.specs.Transposed.{endsDecide, EndsDecide}
+use Rattle.prediction.proofs.SideTransposedLaws.{ends-transposed}
+use Rattle.choice.specs.Case.{Case}
+use Rattle.choice.specs.Refusal.{chooseRefusal}
+use Rattle.choice.specs.Record.{Within, LeastRecord}
+use Rattle.record.specs.declared.Record.{Record}
 use Rattle.choice.specs.Search.{chosen}
 use Rattle.choice.specs.Answer.{chooseAnswer}
-use Rattle.choice_checks.proofs.AcceptLaws.{Accepted, accepted}
+use Rattle.choice.proofs.AcceptLaws.{Accepted, accepted}
 use Rattle.choice.proofs.LeastLaws.{chosen-least, one-least}
 use Rattle.depth_bench.specs.Structs.{choiceStruct}
 use Rattle.depth_bench.proofs.Built.{list-as-built, least-told}

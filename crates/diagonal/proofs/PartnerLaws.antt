@@ -1,4 +1,4 @@
--- Every record within the reach has exactly one partner, which predicts the transposed block at the same cost. Assumes nothing.
+-- Every record within the reach has exactly one partner, which predicts the transposed block at the same cost.
 use Prim.Native.Nat.{ℕ, _*_, _<_}
 use mathlib.Core.Path.{_≡_, refl, sym, ap, ap₂, subst, _∙_}
 use mathlib.Core.List.{List}
@@ -15,12 +15,13 @@ use Rattle.wedgelet.specs.Wedgelet.{wedgeletList}
 use Rattle.pattern.proofs.ContourLaws.{contour-transposed}
 use Rattle.wedgelet.proofs.WedgeletLaws.{list-closed}
 use Rattle.wedgelet.proofs.AnswerLaws.{Built, built-at}
-use Rattle.sides.specs.Transposed.{transposedNeighbours, EndsDecide}
+use Rattle.prediction.specs.Transposed.{transposedNeighbours, EndsDecide}
 use Rattle.prediction.specs.Block.{predicted}
 use Rattle.prediction.proofs.TransposedLaws.{prediction-transposed}
-use Rattle.choice_checks.specs.Case.{Case}
-use Rattle.choice.specs.Record.{Record, PatternIn, Within, patternBy, patternOf, predictionOf, difference, costOf}
-use Rattle.choice_checks.proofs.AcceptLaws.{Accepted}
+use Rattle.choice.specs.Case.{Case}
+use Rattle.choice.specs.Record.{PatternIn, Within, patternBy, patternOf, predictionOf, difference, costOf}
+use Rattle.record.specs.declared.Record.{Record}
+use Rattle.choice.proofs.AcceptLaws.{Accepted}
 use Rattle.choice.proofs.LeastLaws.{same-record}
 use Rattle.diagonal.specs.Law.{transposedCase, Partner, OnePartner}
 use Rattle.diagonal.proofs.TransposedLaws.{texture-length, texture-lent}

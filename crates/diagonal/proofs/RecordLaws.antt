@@ -1,4 +1,4 @@
--- What `contour` and `predict` answer for a record within the reach of an accepted case. Assumes nothing.
+-- What `contour` and `predict` answer for a record within the reach of an accepted case.
 use Prim.Native.Nat.{ℕ, _*_}
 use mathlib.Core.Path.{_≡_, sym, ap, _∙_}
 use mathlib.Core.Bool.{true}
@@ -14,12 +14,13 @@ use Rattle.arith.proofs.CheckLaws.{answer-given, lent-given}
 use Rattle.pattern.specs.Size.{wordOk}
 use Rattle.pattern.specs.Answer.{samplesRefusal, contourAnswer}
 use Rattle.pattern.specs.Contour.{contourOf}
-use Rattle.offset.specs.Offset.{offsetOk}
+use Rattle.depth_table.specs.Offset.{offsetOk}
 use Rattle.prediction.specs.Answer.{lengthsOk, predictRefusal, predictBlock}
-use Rattle.side_cost.specs.Offset.{InReach}
-use Rattle.choice_checks.specs.Case.{Case}
-use Rattle.choice.specs.Record.{Record, Within, patternBy, patternOf, predictionOf}
-use Rattle.choice_checks.proofs.AcceptLaws.{Accepted}
+use Rattle.choice.specs.Offset.{InReach}
+use Rattle.choice.specs.Case.{Case}
+use Rattle.choice.specs.Record.{Within, patternBy, patternOf, predictionOf}
+use Rattle.record.specs.declared.Record.{Record}
+use Rattle.choice.proofs.AcceptLaws.{Accepted}
 use Rattle.choice.proofs.NumberLaws.{numberOf, number-pattern}
 use Rattle.choice.proofs.SearchLaws.{texture-judged, pattern-inside}
 

@@ -1,4 +1,4 @@
--- The transposed case: it is accepted, and transposed twice it is the case again. Assumes nothing.
+-- The transposed case: it is accepted, and transposed twice it is the case again.
 use Prim.Native.Nat.{ℕ, _*_, _≤_, _<_}
 use mathlib.Core.Path.{_≡_, refl, sym, _∙_}
 use mathlib.Core.List.{List, [], _∷_}
@@ -8,10 +8,10 @@ use native.Mathlib.Omega.{arith}
 use lib.ListN.{length}
 use Rattle.arith.specs.Square.{transposedList}
 use Rattle.arith.proofs.SquareLaws.{length-transposed, transposed-twice}
-use Rattle.sides.proofs.TransposedLaws.{length-transposed-neighbours, neighbours-transposed-twice}
-use Rattle.choice_checks.specs.Case.{Case, caseOf}
-use Rattle.choice_checks.specs.Refusal.{chooseRefusal}
-use Rattle.choice_checks.proofs.AcceptLaws.{Accepted, accepted, accept}
+use Rattle.prediction.proofs.SideTransposedLaws.{length-transposed-neighbours, neighbours-transposed-twice}
+use Rattle.choice.specs.Case.{Case, caseOf}
+use Rattle.choice.specs.Refusal.{chooseRefusal}
+use Rattle.choice.proofs.AcceptLaws.{Accepted, accepted, accept}
 use Rattle.diagonal.specs.Law.{transposedTexture, transposedCase}
 
 -- ---- the texture

@@ -1,4 +1,4 @@
--- The law on worked cases, for n = 4 and document 01's table and neighbours. Assumes nothing.
+-- The law on worked cases, for n = 4 and document 01's table and neighbours.
 use Prim.Native.Nat.{ℕ}
 use mathlib.Core.Path.{_≡_}
 use mathlib.Core.Bool.{Bool, true, false, not, _||_}
@@ -7,9 +7,9 @@ use lib.Dec.{eqb}
 use lib.IntN.{pos}
 use Rattle.depth_table.specs.Examples.{sampleTable}
 use Rattle.prediction.specs.Cases.{sampleNeighbours}
-use Rattle.choice_checks.specs.Case.{Case, caseOf}
-use Rattle.choice_checks.specs.Refusal.{chooseRefusal}
-use Rattle.choice.specs.Record.{Record}
+use Rattle.choice.specs.Case.{Case, caseOf}
+use Rattle.choice.specs.Refusal.{chooseRefusal}
+use Rattle.record.specs.declared.Record.{Record}
 use Rattle.choice.specs.Search.{chosen}
 use Rattle.diagonal.specs.Law.{transposedCase, Partner, Alike, covered}
 

@@ -1,7 +1,7 @@
 -- Demand 3, the least cost and the diagonal law, of what the calls answer: `Case`, `Within`, `patternOf`, `predictionOf`, `costOf`,
 -- `chooseRefusal` and `chooseAnswer` are those that the contract of `choose` cites; `listAnswer` and `listAfter` are what `wedgelets`
 -- answers and leaves, `contourAnswer` what `contour` answers, `predictBlock` what `predict` leaves, and `choiceStruct` of `chooseAnswer` of
--- `builtCase` what `depth_bench_choose` answers. Turning is called transposing. Assumes nothing.
+-- `builtCase` what `depth_bench_choose` answers. Turning is called transposing.
 use Prim.Native.Nat.{ℕ, _*_}
 use mathlib.Core.Path.{_≡_}
 use mathlib.Core.Bool.{Bool, true, _&&_}
@@ -14,10 +14,11 @@ use Rattle.pattern.specs.Words.{patternsOf}
 use Rattle.pattern.specs.Answer.{contourAnswer}
 use Rattle.wedgelet.specs.Answer.{listAnswer, listAfter, asBuilt}
 use Rattle.prediction.specs.Answer.{predictBlock}
-use Rattle.sides.specs.Transposed.{transposedNeighbours, endsDecide}
-use Rattle.choice_checks.specs.Case.{Case, caseOf}
-use Rattle.choice_checks.specs.Refusal.{chooseRefusal}
-use Rattle.choice.specs.Record.{Record, Within, patternOf, predictionOf, costOf, LeastRecord, OneLeast}
+use Rattle.prediction.specs.Transposed.{transposedNeighbours, endsDecide}
+use Rattle.choice.specs.Case.{Case, caseOf}
+use Rattle.choice.specs.Refusal.{chooseRefusal}
+use Rattle.choice.specs.Record.{Within, patternOf, predictionOf, costOf, LeastRecord, OneLeast}
+use Rattle.record.specs.declared.Record.{Record}
 use Rattle.choice.specs.Answer.{chooseAnswer}
 use Rattle.depth_bench.specs.declared.Choice.{Choice}
 use Rattle.depth_bench.specs.Built.{builtCase, patternAnswer}
@@ -41,7 +42,8 @@ transposedTexture n (a ∷ t) = transposedList n (a ∷ t)
 -- and the top run the old left run; list, table and reach are kept.
 abbrev pub transposedCase : Case → Case
 transposedCase C =
-    caseOf (C .n) (C .list) (C .count) (transposedNeighbours (C .n) (C .neighbours)) (transposedList (C .n) (C .original)) (C .table) (C .reach)
+    caseOf (C .n) (C .list) (C .count)
+    (transposedNeighbours (C .n) (C .neighbours)) (transposedList (C .n) (C .original)) (C .table) (C .reach)
     (transposedTexture (C .n) (C .texture))
 
 -- A partner is a record within the reach for the transposed block, of the same kind and offsets, whose pattern is the first record's
@@ -113,10 +115,12 @@ module _ (n : ℕ) (neighbours original table : List ℕ) (reach : ℕ) (texture
 -- the cases that are covered.
 pub record DiagonalLaw : Type 0 where
   -- the patterns that `wedgelets` leaves in a lent list, with the count that it answers, are the list as built
-  pub built : (n : ℕ) (old : List ℕ) (count : ℕ) → listAnswer n old ≡ given count → asBuilt n (patternsOf n (listAfter n old)) count ≡ true
+  pub built :
+      (n : ℕ) (old : List ℕ) (count : ℕ) → listAnswer n old ≡ given count → asBuilt n (patternsOf n (listAfter n old)) count ≡ true
   -- what `contour` answers for texture that is lent is the pattern of kind 1
   pub outlined :
-      (C : Case) → chooseRefusal C ≡ 0 → (r : Record) → Within C r → r .kind ≡ 1 → contourAnswer (C .n) (C .texture) ≡ given (patternOf C r)
+      (C : Case) → chooseRefusal C ≡ 0 → (r : Record) → Within C r → r .kind ≡ 1
+      → contourAnswer (C .n) (C .texture) ≡ given (patternOf C r)
   -- what `predict` writes to a lent block of n * n samples for a record within the reach is its prediction
   pub written :
       (C : Case) → chooseRefusal C ≡ 0 → (r : Record) → Within C r → (block : List ℕ) → length block ≡ C .n * C .n

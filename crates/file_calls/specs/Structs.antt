@@ -1,22 +1,37 @@
--- The structs that the calls return: what `read`, field by field, `write` and `choose` answered. Assumes nothing.
+-- The structs that the calls return: what `read`, field by field, `write` and `choose` answered.
 use Prim.Native.Nat.{ℕ}
+use mathlib.Core.List.{List}
+use mathlib.Core.Path.{_≡_}
 use lib.IntN.{pos}
 use Rattle.arith.specs.Checks.{Answer, refused, given}
-use Rattle.choice.specs.Record.{Record}
+use Rattle.record.specs.declared.Record.{Record}
+use Rattle.record_file.specs.Reading.{Aids}
 use Rattle.record_read.specs.declared.reading.FileBack.{FileBack}
+use Rattle.record_read.specs.Back.{fileBack, Lent, reading, Reads}
 use Rattle.file_calls.specs.declared.FileRead.{FileRead}
 use Rattle.file_calls.specs.declared.FileWritten.{FileWritten}
 use Rattle.file_calls.specs.declared.FileChosen.{FileChosen}
 
--- what `read` answered beside a refusal number, and beside its own
-abbrev pub answeredBy : ℕ → FileBack → FileRead
-answeredBy number b =
-    record
-    { refusal = number; line = b .line; n = b .sheet .n; width = b .sheet .width; height = b .sheet .height; placed = b .sheet .placed; values = b .values; table = b .table }
-
+-- what `read` answered
 abbrev pub fileReadOf : FileBack → FileRead
-fileReadOf b = answeredBy (b .refusal) b
+fileReadOf b =
+    record {
+      refusal = b .refusal;
+      line = b .line;
+      n = b .sheet .n;
+      width = b .sheet .width;
+      height = b .sheet .height;
+      placed = b .sheet .placed;
+      values = b .values;
+      table = b .table;
+    }
 
+-- all that the call does: its struct says what `read` answers, and what is lent is left as `read` leaves it
+pub record CallReads (A : Aids) (before : Lent) (s : List ℕ) (r : FileRead) (after : Lent) : Type 0 where
+  pub told : r ≡ fileReadOf (fileBack (reading A before s))
+  pub left : Reads A before s (fileBack (reading A before s)) after
+
+-- what `write` and `choose` answered
 abbrev pub fileWrittenOf : Answer ℕ → FileWritten
 fileWrittenOf (refused number) = record { refusal = number; length = 0 }
 fileWrittenOf (given count) = record { refusal = 0; length = count }

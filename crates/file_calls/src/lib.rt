@@ -3,22 +3,21 @@
 ghost use mathlib.Core.Path.{_≡_};
 ghost use lib.ListN.{length};
 ghost use Rattle.pattern.specs.Words.{patternsOf};
-ghost use Rattle.choice_checks.specs.Case.{caseOf};
+ghost use Rattle.choice.specs.Case.{caseOf};
 ghost use Rattle.choice.specs.Answer.{chooseAnswer};
 ghost use Rattle.sheet.specs.State.{stateOf};
-ghost use Rattle.sheet_checks.specs.Checks.{recordsLent};
-ghost use Rattle.record_file.specs.Text.{recordAt};
+ghost use Rattle.record.specs.Lent.{recordAt};
 ghost use Rattle.record_file.specs.Writing.{sourceOf, writeAnswer, writeAfter};
-ghost use Rattle.record_file.specs.Reading.{aidsOf, readFile};
-ghost use Rattle.record_lines.specs.Stored.{Slices};
-ghost use Rattle.record_lines.specs.Back.{recordsBack, leaving};
-ghost use Rattle.record_read.specs.Back.{fileBack, samplesBack};
-ghost use Rattle.file_calls.specs.Structs.{fileReadOf, fileWrittenOf, chosenOf};
+ghost use Rattle.record_file.specs.Reading.{aidsOf};
+ghost use Rattle.record_read.specs.Back.{lentOf};
+ghost use Rattle.file_calls.specs.Structs.{CallReads, fileWrittenOf, chosenOf};
 use choice::Choice;
+use depth_table::VALUES;
 use record_write::Wrote;
 use sheet::Sheet;
 
-// What reading answers: the number of a refusal (0 for none) and its line; where there is none, the finished state, the table and its count.
+// What reading answers: the number of a refusal (0 for none) and its line; where there is none, the finished state, and the table with its
+// count.
 #[repr(C)]
 pub struct FileRead {
     pub refusal: u32,
@@ -28,7 +27,7 @@ pub struct FileRead {
     pub height: u32,
     pub placed: u32,
     pub values: u32,
-    pub table: [u8; 256],
+    pub table: [u8; VALUES],
 }
 
 // What writing answers: the length of the text, or the number of the refusal beside 0.
@@ -68,29 +67,12 @@ pub extern "C" fn file_calls_read<'a>(
     count16: usize,
     texture: &[u8],
     samples: &mut [u8],
-    kinds: &mut [u32],
-    entries: &mut [u32],
-    offs0: &mut [i32],
-    offs1: &mut [i32],
+    records: &mut [[i32; 4]],
 ) -> FileRead
-    ensures answered { λ r.
+    ensures { λ r.
         let A = aidsOf (now (list4 .entry)) count4 (now (list8 .entry)) count8 (now (list16 .entry)) count16 (now (texture .entry)) in
-        let records = recordsLent (length (now (kinds .entry))) (length (now (entries .entry)))
-        (length (now (offs0 .entry))) (length (now (offs1 .entry))) in
-        ⌜ r ≡ fileReadOf (fileBack (readFile A (length (now (samples .entry))) records (now (bytes .entry)))) ⌝ }
-    ensures kept { λ r.
-        let A = aidsOf (now (list4 .entry)) count4 (now (list8 .entry)) count8 (now (list16 .entry)) count16 (now (texture .entry)) in
-        let records = recordsLent (length (now (kinds .entry))) (length (now (entries .entry)))
-        (length (now (offs0 .entry))) (length (now (offs1 .entry))) in
-        let old : Slices = (now (kinds .entry), (now (entries .entry), (now (offs0 .entry), now (offs1 .entry)))) in
-        ⌜ _≡_ {A = Slices} (now (kinds .exit), (now (entries .exit), (now (offs0 .exit), now (offs1 .exit))))
-        (leaving (readFile A (length (now (samples .entry))) records (now (bytes .entry))) (λ F. recordsBack F old) old) ⌝ }
-    ensures drawn { λ r.
-        let A = aidsOf (now (list4 .entry)) count4 (now (list8 .entry)) count8 (now (list16 .entry)) count16 (now (texture .entry)) in
-        let records = recordsLent (length (now (kinds .entry))) (length (now (entries .entry)))
-        (length (now (offs0 .entry))) (length (now (offs1 .entry))) in
-        let old = now (samples .entry) in
-        ⌜ now (samples .exit) ≡ leaving (readFile A (length old) records (now (bytes .entry))) (λ F. samplesBack A F old) old ⌝ }
+        let before = lentOf (now (samples .entry)) (now (records .entry)) in
+        ⌜ CallReads A before (now (bytes .entry)) r (lentOf (now (samples .exit)) (now (records .exit))) ⌝ }
 {
     let back = record_read::read(
         bytes,
@@ -102,10 +84,7 @@ pub extern "C" fn file_calls_read<'a>(
         count16,
         texture,
         samples,
-        kinds,
-        entries,
-        offs0,
-        offs1,
+        records,
     );
     let table = back.table;
     FileRead {
@@ -130,24 +109,17 @@ pub extern "C" fn file_calls_write(
     list: &[u64],
     count: usize,
     table: &[u8],
-    kinds: &[u32],
-    entries: &[u32],
-    offs0: &[i32],
-    offs1: &[i32],
+    records: &[[i32; 4]],
     out: &mut [u8],
 ) -> FileWritten
     ensures answered { λ r.
-        let R = recordAt (now (kinds .entry)) (now (entries .entry)) (now (offs0 .entry)) (now (offs1 .entry)) in
-        let S = sourceOf (stateOf n width height placed) (now (table .entry)) R in
-        let records = recordsLent (length (now (kinds .entry))) (length (now (entries .entry)))
-        (length (now (offs0 .entry))) (length (now (offs1 .entry))) in
-        ⌜ r ≡ fileWrittenOf (writeAnswer S (patternsOf n (now (list .entry))) count records (length (now (out .entry)))) ⌝ }
+        let W = sourceOf (stateOf n width height placed) (now (table .entry)) (recordAt (now (records .entry))) in
+        let l = patternsOf n (now (list .entry)) in
+        ⌜ r ≡ fileWrittenOf (writeAnswer W l count (length (now (records .entry))) (length (now (out .entry)))) ⌝ }
     ensures left { λ r.
-        let R = recordAt (now (kinds .entry)) (now (entries .entry)) (now (offs0 .entry)) (now (offs1 .entry)) in
-        let S = sourceOf (stateOf n width height placed) (now (table .entry)) R in
-        let records = recordsLent (length (now (kinds .entry))) (length (now (entries .entry)))
-        (length (now (offs0 .entry))) (length (now (offs1 .entry))) in
-        ⌜ now (out .exit) ≡ writeAfter S (patternsOf n (now (list .entry))) count records (now (out .entry)) ⌝ }
+        let W = sourceOf (stateOf n width height placed) (now (table .entry)) (recordAt (now (records .entry))) in
+        let l = patternsOf n (now (list .entry)) in
+        ⌜ now (out .exit) ≡ writeAfter W l count (length (now (records .entry))) (now (out .entry)) ⌝ }
 {
     let sheet = Sheet {
         n,
@@ -155,7 +127,7 @@ pub extern "C" fn file_calls_write(
         height,
         placed,
     };
-    let wrote = record_write::write(sheet, list, count, table, kinds, entries, offs0, offs1, out);
+    let wrote = record_write::write(sheet, list, count, table, records, out);
     match wrote {
         Wrote::Length(length) => FileWritten { refusal: 0, length },
         Wrote::Refused(number) => FileWritten {
@@ -184,13 +156,13 @@ pub extern "C" fn file_calls_choose(
 {
     let answer = choice::choose(n, list, count, border, original, table, reach, texture);
     match answer {
-        Choice::Chosen(best) => FileChosen {
+        Choice::Chosen(best, cost) => FileChosen {
             refusal: 0,
             kind: best.kind,
             entry: best.entry,
             off0: best.off0,
             off1: best.off1,
-            cost: best.cost,
+            cost,
         },
         Choice::Refused(refusal) => FileChosen {
             refusal: wide(refusal),

@@ -1,4 +1,4 @@
--- The contour in words, and the contour of a transposed texture: the transposed contour, for every n. Assumes nothing.
+-- The contour in words, and the contour of a transposed texture: the transposed contour, for every n.
 use Prim.Native.Nat.{ℕ, _+_, _-_, _*_, _/_, _%_, _^_, _≤_, _<_, min}
 use mathlib.Core.List.{List}
 use mathlib.Core.Bool.{Bool}

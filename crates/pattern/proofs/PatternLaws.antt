@@ -1,4 +1,4 @@
--- Laws of patterns, mark by mark. Assumes nothing.
+-- Laws of patterns, mark by mark.
 use Prim.Native.Nat.{ℕ, _*_, _/_, _%_, _^_, _<_}
 use mathlib.Core.Bool.{Bool, false}
 use mathlib.Core.Path.{_≡_, sym, ap, ap₂, _∙_}

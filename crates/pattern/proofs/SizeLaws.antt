@@ -1,4 +1,4 @@
--- Bounds of the allowed sizes and of what they hold. Assumes nothing.
+-- Bounds of the allowed sizes and of what they hold.
 use Prim.Native.Nat.{ℕ, _*_, _/_, _^_, _≤_, _<_}
 use mathlib.Core.Bool.{Bool, true, _&&_, _||_}
 use mathlib.Core.Logic.{_⊎_, ⊎-elim, inl, inr}

@@ -1,4 +1,4 @@
--- Patterns as words: four words and their number, and the patterns of a list of words. Assumes nothing.
+-- Patterns as words: four words and their number, and the patterns of a list of words.
 use Prim.Native.Nat.{ℕ, zero, suc, _+_, _-_, _*_, _/_, _%_, _^_, _≤_, _<_, min}
 use mathlib.Core.Bool.{Bool, true, false, cond, _&&_, and-true}
 use mathlib.Core.List.{List, [], _∷_, _++_, append-assoc}

@@ -1,4 +1,4 @@
--- What the public calls answer: refusals in document 01's order. Assumes nothing.
+-- What the public calls answer: refusals in document 01's order.
 use Prim.Native.Nat.{ℕ, _*_}
 use mathlib.Core.Bool.{Bool, _&&_, _||_}
 use mathlib.Core.List.{List}

@@ -1,4 +1,4 @@
--- The contour (document 01: the outline) of n * n texture samples. Assumes nothing.
+-- The contour (document 01: the outline) of n * n texture samples.
 use Prim.Native.Nat.{ℕ, _*_, _/_}
 use mathlib.Core.List.{List}
 use lib.Dec.{ltb}

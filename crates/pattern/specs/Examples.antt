@@ -1,4 +1,4 @@
--- Worked examples of the definitions. Assumes nothing.
+-- Worked examples of the definitions.
 use Prim.Native.Nat.{_+_, _*_, _^_}
 use mathlib.Core.Path.{_≡_, refl}
 use mathlib.Core.List.{[], _∷_}
@@ -15,7 +15,8 @@ unfolding bits
 edge-transposed = refl
 
 -- corners 100 and all other samples 90
-corners : contourOf 4 (100 ∷ 90 ∷ 90 ∷ 100 ∷ 90 ∷ 90 ∷ 90 ∷ 90 ∷ 90 ∷ 90 ∷ 90 ∷ 90 ∷ 100 ∷ 90 ∷ 90 ∷ 100 ∷ []) ≡ 0x9009
+corners :
+    contourOf 4 (100 ∷ 90 ∷ 90 ∷ 100 ∷ 90 ∷ 90 ∷ 90 ∷ 90 ∷ 90 ∷ 90 ∷ 90 ∷ 90 ∷ 100 ∷ 90 ∷ 90 ∷ 100 ∷ []) ≡ 0x9009
 unfolding bits sumTo threshold contourOf
 corners = refl
 

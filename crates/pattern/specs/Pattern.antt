@@ -1,5 +1,5 @@
 -- A pattern of an n by n block is a natural number: bit y * n + x is the mark of sample (x, y), column and row from 0.
--- Partition 1 is the samples with a mark, partition 0 those without. Assumes nothing.
+-- Partition 1 is the samples with a mark, partition 0 those without.
 use Prim.Native.Nat.{ℕ, _-_, _*_, _/_, _%_, _^_}
 use mathlib.Core.Bool.{Bool}
 use Rattle.arith.specs.Bits.{bits, testBit}

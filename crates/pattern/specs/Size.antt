@@ -1,4 +1,4 @@
--- The allowed block sizes: the one place where 4, 8 and 16 are named, and what a block of the greatest size has. Assumes nothing.
+-- The allowed block sizes: the one place where 4, 8 and 16 are named, and what a block of the greatest size has.
 use Prim.Native.Nat.{ℕ, _*_, _^_}
 use mathlib.Core.Bool.{Bool, cond, _&&_, _||_}
 use lib.Dec.{eqb, ltb}

@@ -1,4 +1,4 @@
--- A pattern in 64-bit words, lowest bit first: one word for n up to 8, four for 16, word k holding rows 4k to 4k + 3. Assumes nothing.
+-- A pattern in 64-bit words, lowest bit first: one word for n up to 8, four for 16, word k holding rows 4k to 4k + 3.
 use Prim.Native.Nat.{ℕ, _+_, _*_, _/_, _%_, _^_}
 use mathlib.Core.Bool.{cond}
 use mathlib.Core.List.{List, [], _∷_, _++_}

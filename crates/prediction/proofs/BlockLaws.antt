@@ -1,26 +1,20 @@
--- Laws of the predicted block: its length, its range, and the form in which the code writes it. Assumes nothing.
+-- Laws of the predicted block: its length, its range, and the form in which the code writes it.
 use Prim.Native.Nat.{ℕ, _*_, _<_}
-use mathlib.Core.Path.{_≡_, sym, ap₂, _∙_}
+use mathlib.Core.Path.{_≡_, ap₂, _∙_}
 use mathlib.Core.Bool.{Bool, true, false, cond, not}
 use mathlib.Core.List.{List}
 use lib.IntN.{ℤ}
 use lib.ListN.{length, getD}
 use Rattle.arith.specs.Bits.{testBit}
-use Rattle.arith.specs.Checks.{lent}
 use Rattle.arith.specs.Lists.{listOf}
-use Rattle.arith.proofs.CheckLaws.{lent-given}
 use Rattle.arith.proofs.ListLaws.{length-listOf, listOf-at, listOf-ext}
-use Rattle.sides.specs.Sides.{sideDepth}
-use Rattle.sides.specs.Answer.{sidesRefusal}
-use Rattle.offset.specs.Offset.{levelOf}
+use Rattle.prediction.specs.Sides.{sideDepth}
+use Rattle.depth_table.specs.Offset.{levelOf}
 use Rattle.prediction.specs.Block.{sampleOf, predicted}
 
 -- the level v of the samples with the mark m, by the steps that the code takes
-pub level-found :
-    (n w : ℕ) (s t : List ℕ) (m : Bool) {v d : ℕ} {z off : ℤ}
-    → sidesRefusal n w s ≡ 0 → v ≡ levelOf t d z → d ≡ lent (sidesRefusal n w s) (sideDepth n w s m) 0 → z ≡ off
-    → v ≡ levelOf t (sideDepth n w s m) off
-level-found n w s t m none e p o = e ∙ ap₂ (levelOf t) (p ∙ sym (lent-given _ _ 0 none)) o
+pub level-of : (n w : ℕ) (s t : List ℕ) (m : Bool) {v d : ℕ} {z off : ℤ} → v ≡ levelOf t d z → d ≡ sideDepth n w s m → z ≡ off → v ≡ levelOf t (sideDepth n w s m) off
+level-of n w s t m e p o = e ∙ ap₂ (levelOf t) p o
 
 module _ (n w : ℕ) (s t : List ℕ) (off0 off1 : ℤ) where
   pub length-predicted : length (predicted n w s t off0 off1) ≡ n * n

@@ -1,26 +1,25 @@
--- What holds where no check of `predict` fails. Assumes nothing.
+-- What holds where no check of `predict` fails.
 use Prim.Native.Nat.{ℕ, _*_, _^_, _≤_, _<_}
 use mathlib.Core.Path.{_≡_, sym, ap, ap₂, _∙_}
 use mathlib.Core.Bool.{true}
 use mathlib.Core.List.{List}
+use native.Mathlib.Omega.{arith}
 use lib.Count.{ones}
 use lib.Dec.{eqb}
 use lib.IntN.{ℤ}
 use lib.ListN.{length}
-use borrow.Author.Tests.{eqb-true, ltb-true, lt-ltb}
+use borrow.Author.Tests.{eqb-true, ltb-true}
 use Rattle.arith.specs.Bits.{bit, testBit}
 use Rattle.arith.specs.Checks.{Answer, refused, given}
 use Rattle.arith.specs.Sum.{sumTo}
 use Rattle.arith.proofs.Bools.{both-of}
-use Rattle.arith.proofs.CheckLaws.{passed, answer-refused, lent-refused, given-means}
+use Rattle.arith.proofs.CheckLaws.{holds, answer-refused, lent-refused, given-means}
 use Rattle.depth_table.specs.Table.{tableOk}
 use Rattle.pattern.specs.Size.{greatestSize, sizeOk, wordOk}
 use Rattle.pattern.proofs.PatternLaws.{marks-counted}
 use Rattle.pattern.proofs.SizeLaws.{size-bounds}
-use Rattle.sides.specs.Answer.{sidesRefusal}
-use Rattle.sides.proofs.CallLaws.{sides-pass}
-use Rattle.offset.specs.Offset.{offsetOk}
-use Rattle.prediction.specs.Answer.{lengthsOk, predictRefusal, predictAnswer, predictBlock}
+use Rattle.depth_table.specs.Offset.{offsetOk}
+use Rattle.prediction.specs.Answer.{lengthsOk, predictChecks, predictRefusal, predictAnswer, predictBlock, Predictable}
 
 -- the checks of offsets that are read from their bits
 pub offsets-read :
@@ -63,31 +62,27 @@ pub predict-accepted :
     → PredictAccepted n w neighbours t off0 off1 samples
 unfolding predictRefusal lengthsOk
 predict-accepted n w neighbours t off0 off1 samples h =
-    let p₁ = passed (sizeOk n) 0 _ h in
-    let p₂ = passed (lengthsOk n neighbours samples) 1 _ (p₁ .1) in
-    let p₃ = passed (tableOk t) 2 _ (p₂ .1) in
-    let p₄ = passed (wordOk n w) 4 _ (p₃ .1) in
-    let p₅ = passed (offsetOk off0) 3 _ (p₄ .1) in
-    let p₆ = passed (offsetOk off1) 3 0 (p₅ .1) in
-    let b = size-bounds n (p₁ .0) in
-    let l = both-of (eqb neighbours (4 * n)) (eqb samples (n * n)) (p₂ .0) in
+    let c = holds (predictChecks n w neighbours t off0 off1 samples) 0 h .0 in
+    let b = size-bounds n (c .0) in
+    let l = both-of (eqb neighbours (4 * n)) (eqb samples (n * n)) (c .1 .0) in
     record {
-      size = p₁ .0;
+      size = c .0;
       low = b .0;
       high = b .1;
       long = eqb-true _ _ (l .0);
       full = eqb-true _ _ (l .1);
-      sound = p₃ .0;
-      inside = ltb-true w (2 ^ (n * n)) (p₄ .0);
-      first = p₅ .0;
-      second = p₆ .0;
+      sound = c .1 .1 .0;
+      inside = ltb-true w (2 ^ (n * n)) (c .1 .1 .1 .0);
+      first = c .1 .1 .1 .1 .0;
+      second = c .1 .1 .1 .1 .1 .0;
     }
 
--- nor does `side_depths`, which checks some of the same
-pub sides-accept :
+-- then the values of the block can be worked out
+pub predictable :
     {n w : ℕ} (s : List ℕ) {t : List ℕ} {off0 off1 : ℤ} {samples : ℕ}
-    → PredictAccepted n w (length s) t off0 off1 samples → sidesRefusal n w s ≡ 0
-sides-accept s p = sides-pass _ _ s (p .size) (p .long) (lt-ltb _ _ (p .inside))
+    → PredictAccepted n w (length s) t off0 off1 samples → Predictable n s t off0 off1
+predictable s p =
+    record { some = omega (arith, p .low); high = p .high; long = p .long; sound = p .sound; first = p .first; second = p .second }
 
 -- the number of marks in the answer is the number of marked samples
 pub marks-answered :

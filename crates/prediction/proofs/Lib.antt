@@ -2,3 +2,6 @@
 pub mod BlockLaws
 pub mod TransposedLaws
 pub mod CallLaws
+pub mod SideLaws
+pub mod SideTransposedLaws
+pub mod SideCallLaws

@@ -1,5 +1,5 @@
 -- Transposing (document 01: turning) a pattern and its neighbours transposes the predicted block, where the runs differ from end to end
--- by unequal amounts or end on equal samples. For every n. Assumes nothing.
+-- by unequal amounts or end on equal samples. For every n.
 use Prim.Native.Nat.{ℕ, _*_, _<_}
 use mathlib.Core.Path.{_≡_, sym, ap, _∙_}
 use mathlib.Core.Bool.{Bool, cond}
@@ -12,9 +12,9 @@ use Rattle.arith.proofs.ListLaws.{listOf-ext}
 use Rattle.arith.proofs.SquareLaws.{positive, across-lt}
 use Rattle.pattern.specs.Pattern.{transposed}
 use Rattle.pattern.proofs.PatternLaws.{transposed-bit}
-use Rattle.sides.specs.Transposed.{transposedNeighbours, EndsDecide}
-use Rattle.sides.proofs.TransposedLaws.{side-depth-transposed}
-use Rattle.offset.specs.Offset.{levelOf}
+use Rattle.prediction.specs.Transposed.{transposedNeighbours, EndsDecide}
+use Rattle.prediction.proofs.SideTransposedLaws.{side-depth-transposed}
+use Rattle.depth_table.specs.Offset.{levelOf}
 use Rattle.prediction.specs.Block.{sampleOf, predicted}
 use Rattle.prediction.proofs.BlockLaws.{predicted-at}
 

@@ -1,12 +1,12 @@
--- Document 01, "Predicted block". Assumes nothing.
+-- Document 01, "Predicted block".
 use Prim.Native.Nat.{ℕ, _*_}
 use mathlib.Core.Bool.{Bool, cond}
 use mathlib.Core.List.{List}
 use lib.IntN.{ℤ}
 use Rattle.arith.specs.Bits.{testBit}
 use Rattle.arith.specs.Lists.{listOf}
-use Rattle.offset.specs.Offset.{levelOf}
-use Rattle.sides.specs.Sides.{sideDepth}
+use Rattle.depth_table.specs.Offset.{levelOf}
+use Rattle.prediction.specs.Sides.{sideDepth}
 
 -- the predicted value of the samples whose mark is m: off1 goes to marked samples, off0 to unmarked ones
 unfoldable pub sampleOf : ℕ → ℕ → List ℕ → List ℕ → ℤ → ℤ → Bool → ℕ

@@ -1,4 +1,4 @@
--- The marked cases of document 01, as one table, and a case where transposing changes the depths. Assumes nothing.
+-- The marked cases of document 01, as one table, and a case where transposing changes the depths.
 use Prim.Native.Nat.{ℕ}
 use mathlib.Core.Path.{_≡_, refl}
 use mathlib.Core.List.{List, [], _∷_, _++_, map}
@@ -11,10 +11,10 @@ use Rattle.depth_table.specs.Table.{nearestTo, indexOf}
 use Rattle.depth_table.specs.Examples.{sampleTable}
 use Rattle.pattern.specs.Pattern.{transposed}
 use Rattle.wedgelet.specs.Wedgelet.{candidate, wedgelet, holds, keep, ends, starts, wedgeletList}
-use Rattle.sides.specs.Sides.{vertEdge, horEdge, ltBy, brBy, lt, br, sideDepth}
-use Rattle.offset.specs.Offset.{levelOf}
+use Rattle.prediction.specs.Sides.{vertEdge, horEdge, ltBy, brBy, lt, br, sideDepth}
+use Rattle.depth_table.specs.Offset.{levelOf}
 use Rattle.prediction.specs.Block.{sampleOf, predicted}
-use Rattle.sides.specs.Transposed.{transposedNeighbours}
+use Rattle.prediction.specs.Transposed.{transposedNeighbours}
 
 -- L = 10, 20 .. 70 and the given L7; T = 100, 110 .. 170
 abbrev pub sampleNeighbours : ℕ → List ℕ
@@ -39,7 +39,8 @@ pub record MarkedCases : Type 0 where
   pub shown : predicted 4 0xFFF0 (replicate 16 128) sampleTable (negsuc 0) (pos 1) ≡ replicate 4 100 ++ replicate 12 140
 
 pub marked-cases : MarkedCases
-unfolding bits clamped listOf nearestTo indexOf candidate wedgelet holds keep ends starts wedgeletList vertEdge horEdge ltBy brBy lt br sideDepth levelOf sampleOf predicted
+unfolding bits clamped listOf nearestTo indexOf candidate wedgelet holds keep ends starts wedgeletList
+    vertEdge horEdge ltBy brBy lt br sideDepth levelOf sampleOf predicted
 marked-cases = record { entries = refl; indices = refl; depths = refl; left-end = refl; shown = refl }
 
 -- br of a pattern, and of the transposed pattern with the transposed neighbours
@@ -50,8 +51,3 @@ brAcross w s = (br 4 w s, br 4 (transposed 4 w) (transposedNeighbours 4 s))
 pub br-not-kept : brAcross 0x8000 (sampleNeighbours 80) ≡ (170, 80)
 unfolding bits transposedNeighbours vertEdge horEdge brBy br
 br-not-kept = refl
-
--- With L7 = 81 the amounts differ, and br is kept.
-pub br-kept : brAcross 0x8000 (sampleNeighbours 81) ≡ (81, 81)
-unfolding bits transposedNeighbours vertEdge horEdge brBy br
-br-kept = refl

@@ -2,3 +2,6 @@
 pub mod Block
 pub mod Answer
 pub mod Cases
+pub mod Sides
+pub mod SideAnswer
+pub mod Transposed

@@ -1,16 +1,20 @@
 // The predicted block.
 ghost use mathlib.Core.Path.{_≡_};
-ghost use mathlib.Core.Bool.{cond};
+ghost use mathlib.Core.Bool.{true, cond};
 ghost use Prim.Native.Nat.{_≤_};
 ghost use lib.ListN.{length};
 ghost use Rattle.arith.specs.Bits.{testBit};
 ghost use Rattle.arith.specs.Lists.{listOf};
-ghost use Rattle.sides.specs.Answer.{sidesRefusal};
+ghost use Rattle.depth_table.specs.Table.{tableOk};
+ghost use Rattle.depth_table.specs.Offset.{offsetOk, levelOf};
 ghost use Rattle.prediction.specs.Block.{sampleOf};
 ghost use Rattle.pattern.specs.Size.{greatestSize};
 ghost use Rattle.pattern.specs.Words.{patternNumber, usedNumber};
-ghost use Rattle.prediction.specs.Answer.{lengthsOk, predictRefusal, predictAnswer, predictBlock, predictTold};
+ghost use Rattle.prediction.specs.Answer.{lengthsOk, Predictable, predictRefusal, predictAnswer, predictBlock, predictTold};
 use crate::Predicted;
+use depth_table::DepthValue;
+use depth_table::Indexed;
+use depth_table::Valued;
 use pattern::Pattern;
 use pattern::check;
 
@@ -62,22 +66,37 @@ fn predict_refusal(
     let lengths = lengths_ok(n, neighbours, samples);
     let sound = depth_table::is_table(table);
     let inside = pattern::word_ok(n, p);
-    let offset0 = offset::offset_ok(off0);
-    let offset1 = offset::offset_ok(off1);
+    let offset0 = depth_table::offset_ok(off0);
+    let offset1 = depth_table::offset_ok(off1);
     let later = check(inside, 5, check(offset0, 4, check(offset1, 4, 0)));
     check(lengths, 2, check(sound, 3, later))
 }
 
+// The table value at a depth's index plus an offset.
+fn level(table: &[u8], d: DepthValue, off: i32) -> u8
+    requires { ⌜ (tableOk (now table) ≡ true) × (offsetOk off ≡ true) ⌝ }
+    ensures { λ r. ⌜ r ≡ levelOf (now (table .entry)) (d .0) off ⌝ }
+{
+    let nearest = depth_table::nearest_index(table, d);
+    let Indexed::At(index) = nearest else {
+        return 0;
+    };
+    match depth_table::value_at(table, index, off) {
+        Valued::At(v) => v.0,
+        Valued::Refused(_) => 0,
+    }
+}
+
 // The value of the samples with the mark m: off1 goes to marked samples, off0 to unmarked ones.
 fn value_of(n: usize, p: Pattern, border: &[u8], table: &[u8], m: bool, off0: i32, off1: i32) -> u8
-    requires { ⌜ sidesRefusal n (patternNumber p) (now border) ≡ 0 ⌝ }
+    requires { ⌜ Predictable n (now border) (now table) off0 off1 ⌝ }
     ensures { λ r. ⌜ r ≡ sampleOf n (patternNumber p) (now (border .entry)) (now (table .entry)) off0 off1 m ⌝ }
 {
-    let d = sides::side_depth(n, p, border, m);
+    let d = crate::sides::side_depth(n, p, border, m);
     if m {
-        return offset::level(table, d, off1);
+        return level(table, d, off1);
     }
-    offset::level(table, d, off0)
+    level(table, d, off0)
 }
 
 // Writes the predicted block of n * n samples and answers the number of marks, or refuses with 1, 2, 3, 5 or 4 and writes nothing.

@@ -1,10 +1,19 @@
 // The predicted block (document 01, "Predicted block").
 mod block;
+mod sides;
 
 pub use block::predict;
+use depth_table::DepthValue;
+pub use sides::side_depths;
 
 // What `predict` answers: the number of marks, or the number of its refusal.
 pub enum Predicted {
     Marks(u32),
+    Refused(u8),
+}
+
+// What `side_depths` answers: lt and br (document 01: A and B), or the number of its refusal.
+pub enum SideDepths {
+    Sides(DepthValue, DepthValue),
     Refused(u8),
 }

@@ -1,43 +1,58 @@
 -- What a record means, and what is checked of it.
-use Prim.Native.Nat.{ℕ, zero, suc}
-use mathlib.Core.Bool.{Bool}
+use Prim.Native.Nat.{ℕ, zero, suc, _<_}
+use mathlib.Core.Bool.{Bool, true, false}
 use mathlib.Core.List.{List, [], _∷_}
+use mathlib.Core.Logic.{_⊎_}
+use mathlib.Core.Path.{_≡_}
 use lib.Dec.{eqb, ltb}
 use lib.ListN.{getD}
-use Rattle.arith.specs.Checks.{refusal, Answer, refused, given, answer, refusalOf}
+use Rattle.arith.specs.Checks.{refusal, Answer, answer}
 use Rattle.pattern.specs.Size.{wordOk}
-use Rattle.offset.specs.Offset.{offsetOk}
+use Rattle.depth_table.specs.Offset.{offsetOk}
 use Rattle.record.specs.declared.Record.{Record}
 
--- what a record's kind and entry name: a pattern of the list, or the contour (document 01: the outline) of the block's texture
+-- what a record's kind and entry name: a pattern of the list, the contour (document 01: the outline) of the block's texture, or nothing
 pub data Named : Type 0 where
   listed : ℕ → Named
   contour : Named
+  nothing : Named
+
+-- What is checked of a kind and an entry for blocks of size n, and what they name; `textured` is whether texture is lent.
+-- Kind 0 is the pattern that the list has at the entry: 6, the entry is not below the count; 5, the pattern has a bit from n * n up.
+-- Kind 1 is the contour: 7, the entry is not 0; 21, there is no texture (no contour has a bit from n * n up). Any other kind: 7.
+abbrev pub kindMeaning : ℕ → List ℕ → ℕ → Bool → ℕ → ℕ → List (Bool × ℕ) × Named
+kindMeaning n list count textured zero entry =
+    ((ltb entry count, 6) ∷ (wordOk n (getD list entry 0), 5) ∷ [], listed (getD list entry 0))
+kindMeaning n list count textured (suc zero) entry = ((eqb entry 0, 7) ∷ (textured, 21) ∷ [], contour)
+kindMeaning n list count textured (suc (suc k)) entry = ((false, 7) ∷ [], nothing)
+
+-- the first check of kind and entry that fails, then the rest
+abbrev pub kindRefusal : ℕ → List ℕ → ℕ → Bool → ℕ → ℕ → ℕ → ℕ
+kindRefusal n list count textured kind entry rest = refusal (kindMeaning n list count textured kind entry .0) rest
 
 -- 4: an offset
 abbrev pub offsetRefusal : Record → ℕ
 offsetRefusal r = refusal ((offsetOk (r .off0), 4) ∷ (offsetOk (r .off1), 4) ∷ []) 0
 
--- Kind 0, the pattern that the list has at the entry: 6, the entry is not below the count; 5, the pattern has a bit from n * n up.
--- Kind 1, the contour: 7, the entry is not 0; 21, there is no texture (no contour has a bit from n * n up). Any other kind: 7.
--- Then the rest.
-abbrev pub kindMeaning : ℕ → List ℕ → ℕ → Bool → ℕ → ℕ → ℕ → Answer Named
-kindMeaning n list count textured zero entry rest =
-    answer (refusal ((ltb entry count, 6) ∷ (wordOk n (getD list entry 0), 5) ∷ []) rest) (listed (getD list entry 0))
-kindMeaning n list count textured (suc zero) entry rest = answer (refusal ((eqb entry 0, 7) ∷ (textured, 21) ∷ []) rest) contour
-kindMeaning n list count textured (suc (suc k)) entry rest = refused 7
-
--- what a record means for blocks of size n, or its refusal, the checks in document 01's order: 7, 21, 6, 5, 4; `textured` is whether
--- texture is lent
-unfoldable pub recordMeaning : ℕ → List ℕ → ℕ → Bool → Record → Answer Named
-recordMeaning n list count textured r = kindMeaning n list count textured (r .kind) (r .entry) (offsetRefusal r)
-
--- the first check of a record that fails
+-- the checks of a record in document 01's order: 7, 21, 6, 5, 4
 unfoldable pub recordRefusal : ℕ → List ℕ → ℕ → Bool → Record → ℕ
-recordRefusal n list count textured r = refusalOf (recordMeaning n list count textured r)
+recordRefusal n list count textured r = kindRefusal n list count textured (r .kind) (r .entry) (offsetRefusal r)
 
--- the pattern that is named, where c is the contour; a refused record names none
-abbrev pub namedPattern : ℕ → Answer Named → ℕ
-namedPattern c (given (listed w)) = w
-namedPattern c (given contour) = c
-namedPattern c (refused k) = 0
+-- what a record means, or its refusal
+unfoldable pub recordMeaning : ℕ → List ℕ → ℕ → Bool → Record → Answer Named
+recordMeaning n list count textured r =
+    answer (recordRefusal n list count textured r) (kindMeaning n list count textured (r .kind) (r .entry) .1)
+
+-- the pattern that is named, where c is the contour
+abbrev pub patternNamed : ℕ → Named → ℕ
+patternNamed c (listed w) = w
+patternNamed c contour = c
+patternNamed c nothing = 0
+
+-- what holds of a record that is not refused: it names an entry of the list, or the contour of lent texture, and its offsets are allowed
+pub record Sound (n : ℕ) (list : List ℕ) (count : ℕ) (textured : Bool) (r : Record) : Type 0 where
+  pub names :
+      ((r .kind ≡ 0) × (r .entry < count) × (wordOk n (getD list (r .entry) 0) ≡ true))
+      ⊎ ((r .kind ≡ 1) × (r .entry ≡ 0) × (textured ≡ true))
+  pub first : offsetOk (r .off0) ≡ true
+  pub second : offsetOk (r .off1) ≡ true

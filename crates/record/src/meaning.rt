@@ -25,8 +25,8 @@ fn offset_refusal(r: Record) -> u8
 {
     let off0 = r.off0;
     let off1 = r.off1;
-    let second = check(offset::offset_ok(off1), 4, 0);
-    check(offset::offset_ok(off0), 4, second)
+    let second = check(depth_table::offset_ok(off1), 4, 0);
+    check(depth_table::offset_ok(off0), 4, second)
 }
 
 // Kind 0: the pattern at an entry, or refusal 6, 5, or what the checks after these say.

@@ -1,31 +1,33 @@
--- Both inverse laws of the whole text: reading gives what was printed, and what is read was printed so. Assumes nothing.
-use Prim.Native.Nat.{ℕ, _+_, _≤_, _<_, _*_}
+-- Both inverse laws of the whole text: reading gives what was printed, and what is read was printed so.
+use Prim.Native.Nat.{ℕ, _+_, _≤_, _<_}
 use mathlib.Core.Path.{_≡_, refl, ap, sym, subst, _∙_}
-use mathlib.Core.Bool.{true, _&&_, _||_}
+use mathlib.Core.Bool.{true, _&&_}
 use mathlib.Core.List.{List, [], _++_, append-nil}
 use native.Mathlib.Omega.{arith}
 use borrow.Author.Tests.{leb-true}
-use lib.Dec.{leb, eqb}
+use lib.Dec.{leb}
 use lib.ListN.{length, getD}
 use Rattle.arith.proofs.Bools.{both-of}
-use Rattle.arith.proofs.CheckLaws.{passed}
-use Rattle.depth_table.specs.Table.{bytes, rising}
-use Rattle.pattern.specs.Size.{sizeOk}
+use Rattle.arith.proofs.CheckLaws.{holds}
+use Rattle.depth_table.specs.Table.{mostValues, bytes, rising}
+use Rattle.pattern.specs.Size.{greatestSize, sizeOk}
 use Rattle.pattern.proofs.SizeLaws.{size-bounds}
-use Rattle.sheet_blocks.specs.Grid.{blocks, sideOk}
+use Rattle.sheet_grid.specs.Grid.{longest, blocks, sideOk}
 use Rattle.sheet.specs.State.{stateOf, sidesOk}
-use Rattle.sheet_checks.proofs.SideLaws.{side-bounds}
+use Rattle.sheet.proofs.SideLaws.{side-bounds}
 use Rattle.record_text.specs.declared.fields.SizeFields.{SizeFields}
-use Rattle.record_text.specs.declared.fields.RecordFields.{RecordFields}
+use Rattle.record.specs.declared.Record.{Record}
 use Rattle.record_text.specs.Printable.{SizePrintable, RecordPrintable}
-use Rattle.record_field.specs.Parsed.{exactly}
+use Rattle.record_text.specs.Parsed.{exactly}
 use Rattle.record_text.specs.Line.{sizeTitle, depthTitle, recordTitle, sizeLine, sizeText, valueLine, valueText, recordLine, recordText}
 use Rattle.record_text.specs.Lines.{read, noMeaning, texts, Each}
-use Rattle.record_field.proofs.ParsedLaws.{exactly-reads, exactly-wrote}
+use Rattle.record_text.proofs.ParsedLaws.{exactly-reads, exactly-wrote}
 use Rattle.record_text.proofs.LineLaws.{size-line, value-line, record-line}
 use Rattle.record_text.proofs.LinesLaws.{line-read, line-parts, lines-read, lines-parts, ended-parts, many-reads, many-wrote}
-use Rattle.record_file.specs.Text.{noRecord, sizeFieldsOf, fileText}
-use Rattle.record_file.specs.Reading.{File, fileOf, Aids, sizeMeaning, valueMeaning, lowAfter, recordMeaning, unchanged, valueLines, recordLines, lastLines, headLines, frontLines, blocksIn, fileLines}
+use Rattle.record.specs.Record.{noRecord}
+use Rattle.record_file.specs.Text.{sizeFieldsOf, fileText}
+use Rattle.record_file.specs.Reading.{File, fileOf, Aids, sizeChecks, sizeMeaning, valueMeaning, lowAfter, recordMeaning, unchanged}
+use Rattle.record_file.specs.Reading.{valueLines, recordLines, lastLines, headLines, frontLines, blocksIn, fileLines}
 use Rattle.record_file.proofs.MeaningLaws.{SoundValue, values-sound, sound-values, each-made, each-at, record-small, small-printable}
 
 -- what is sound in a file
@@ -45,36 +47,32 @@ pub record SizeSmall (z : SizeFields) : Type 0 where
   pub size : sizeOk (z .n) ≡ true
   pub sides : sidesOk (stateOf (z .n) (z .width) (z .height) 0) ≡ true
   pub low : 4 ≤ z .n
-  pub n : z .n ≤ 16
-  pub width : z .width ≤ 128
-  pub height : z .height ≤ 128
+  pub n : z .n ≤ greatestSize
+  pub width : z .width ≤ longest
+  pub height : z .height ≤ longest
   pub some : 1 ≤ z .values
-  pub values : z .values ≤ 256
+  pub values : z .values ≤ mostValues
 
 pub size-small : (texture : ℕ) (z : SizeFields) → sizeMeaning texture z ≡ 0 → SizeSmall z
 unfolding sizeMeaning
 size-small texture z h =
-    let a = passed (sizeOk (z .n)) 0 _ h in
-    let b = passed (sidesOk (stateOf (z .n) (z .width) (z .height) 0)) 7 _ (a .1) in
-    let c = passed (eqb texture 0 || eqb texture (z .width * z .height)) 1 _ (b .1) in
-    let d = passed (leb 1 (z .values) && leb (z .values) 256) 2 _ (c .1) in
-    let e = both-of (leb 1 (z .values)) (leb (z .values) 256) (d .0) in
-    let n = size-bounds (z .n) (a .0) in
-    let s = both-of (sideOk (z .n) (z .width)) (sideOk (z .n) (z .height)) (b .0) in
+    let c = holds (sizeChecks texture z) 0 h .0 in
+    let e = both-of (leb 1 (z .values)) (leb (z .values) mostValues) (c .1 .1 .1 .0) in
+    let n = size-bounds (z .n) (c .0) in
+    let s = both-of (sideOk (z .n) (z .width)) (sideOk (z .n) (z .height)) (c .1 .0) in
     record {
-      size = a .0;
-      sides = b .0;
+      size = c .0;
+      sides = c .1 .0;
       low = n .0;
       n = n .1;
       width = side-bounds (z .n) (z .width) (s .0) .1;
       height = side-bounds (z .n) (z .height) (s .1) .1;
       some = leb-true 1 (z .values) (e .0);
-      values = leb-true (z .values) 256 (e .1);
+      values = leb-true (z .values) mostValues (e .1);
     }
 
 size-printable : (z : SizeFields) → SizeSmall z → SizePrintable z
-size-printable z s =
-    record { n = omega (arith, s .n); width = omega (arith, s .width); height = omega (arith, s .height); values = omega (arith, s .values) }
+size-printable z s = (omega (arith, s .n), (omega (arith, s .width), (omega (arith, s .height), (omega (arith, s .values), tt))))
 
 -- ---- what is printed is read
 
@@ -118,7 +116,7 @@ module _ (A : Aids) (F : File) (few : A .count (F .n) ≤ 9999) (ok : FileSound 
 
 -- the parts of a text, put together
 join :
-    (A : Aids) (F : File) (z : SizeFields) (table : List ℕ) (records : List RecordFields) (s s1 s2 s3 s4 s5 s6 : List ℕ)
+    (A : Aids) (F : File) (z : SizeFields) (table : List ℕ) (records : List Record) (s s1 s2 s3 s4 s5 s6 : List ℕ)
     → s ≡ sizeTitle ++ s1 → s1 ≡ sizeText z ++ s2 → s2 ≡ depthTitle ++ s3 → s3 ≡ texts valueText table ++ s4 → s4 ≡ recordTitle ++ s5
     → s5 ≡ texts recordText records ++ s6 → s6 ≡ [] → length table ≡ z .values → fileOf (z .n) (z .width) (z .height) table records ≡ F
     → s ≡ textOf F
@@ -127,7 +125,7 @@ join A F z table records s s1 s2 s3 s4 s5 s6 e1 e2 e3 e4 e5 e6 e7 c eF =
     rw (← eF, c, e1, e2, e3, e4, e5, e6, e7, append-nil (texts recordText records))
 
 sound-as :
-    (A : Aids) (F : File) (z : SizeFields) (table : List ℕ) (records : List RecordFields)
+    (A : Aids) (F : File) (z : SizeFields) (table : List ℕ) (records : List Record)
     → sizeMeaning (length (A .texture)) z ≡ 0 → length table ≡ z .values → Each SoundValue lowAfter 0 table
     → length records ≡ blocks (z .n) (z .width) (z .height)
     → Each (λ (c : Unit {0}) r. RecordPrintable r × (recordMeaning (z .n) A tt r ≡ 0)) unchanged tt records

@@ -1,34 +1,38 @@
 -- How far a file goes: its blocks, and the refusals of reading, of which none has the number 0 or a line past those of 256 values and
--- 1,024 records. Assumes nothing.
+-- 1,024 records.
 use Prim.Native.Nat.{ℕ, zero, suc, _+_, _/_, _≤_, _<_}
 use mathlib.Core.Path.{_≡_, refl, sym, _∙_, ap}
 use mathlib.Core.List.{List, [], _∷_}
 use native.Mathlib.Nat.{div-add-mod', mul-le-mul}
 use native.Mathlib.Omega.{arith}
 use lib.ListN.{length}
-use Rattle.arith.specs.Checks.{unless}
+use Rattle.arith.specs.Checks.{refusal}
+use Rattle.depth_table.specs.Table.{mostValues}
+use Rattle.sheet_grid.specs.Grid.{longest, mostBlocks, blocks}
 use Rattle.record_text.specs.declared.fields.SizeFields.{SizeFields}
-use Rattle.record_field.specs.Parsed.{Parsed, Parser, badForm, found, exactly}
+use Rattle.record_text.specs.Parsed.{Parsed, Parser, badForm, found, exactly}
 use Rattle.record_text.specs.Line.{sizeTitle, depthTitle, recordTitle, sizeLine, valueLine, recordLine}
 use Rattle.record_text.specs.Lines.{Lined, refusedAt, read, judged, line, linesThen, noMeaning, manyLines, ended}
 use Rattle.record_text.proofs.LinesLaws.{line-parts}
-use Rattle.record_file.specs.Reading.{Aids, sizeMeaning, valueMeaning, lowAfter, recordMeaning, unchanged, valueLines, recordLines, headLines, tableLines, frontLines, blocksIn, restLines, fileLines, listsOk, readLengthsOk, readFile}
+use Rattle.record_file.specs.Reading.{Aids, sizeMeaning, valueMeaning, lowAfter, recordMeaning, unchanged, valueLines, recordLines}
+use Rattle.record_file.specs.Reading.{headLines, tableLines, frontLines, blocksIn, restLines, fileLines, listsOk, readLengthsOk, readFile}
 use Rattle.record_file.proofs.FileLaws.{size-small, front-parts}
 
 -- ---- a sheet has at most 1,024 blocks
 
-per-few : (n w : ℕ) → 4 ≤ n → w ≤ 128 → w / n ≤ 32
+per-few : (n w : ℕ) → 4 ≤ n → w ≤ longest → w / n ≤ 32
 per-few n w h l =
     let e = div-add-mod' w n in
     let k = mul-le-mul {n₁ = w / n} {m₁ = 4} {n₂ = w / n} {m₂ = n} (omega arith) h in
     omega arith
 
-pub blocks-few : (texture : ℕ) (z : SizeFields) → sizeMeaning texture z ≡ 0 → blocksIn z ≤ 1024
+pub blocks-most : (n w h : ℕ) → 4 ≤ n → w ≤ longest → h ≤ longest → blocks n w h ≤ mostBlocks
+blocks-most n w h l a b = mul-le-mul {n₁ = w / n} {m₁ = h / n} {n₂ = 32} {m₂ = 32} (per-few n w l a) (per-few n h l b)
+
+pub blocks-few : (texture : ℕ) (z : SizeFields) → sizeMeaning texture z ≡ 0 → blocksIn z ≤ mostBlocks
 blocks-few texture z h =
     let s = size-small texture z h in
-    let w = per-few (z .n) (z .width) (s .low) (s .width) in
-    let v = per-few (z .n) (z .height) (s .low) (s .height) in
-    mul-le-mul {n₁ = z .width / z .n} {m₁ = z .height / z .n} {n₂ = 32} {m₂ = 32} w v
+    blocks-most (z .n) (z .width) (z .height) (s .low) (s .width) (s .height)
 
 -- ---- refusals
 
@@ -69,7 +73,7 @@ module _ (b : ℕ) where
 
 -- the lines after the last record of the longest file start here
 abbrev pub lineEnd : ℕ
-lineEnd = 5 + 256 + 1024 + 1
+lineEnd = 5 + mostValues + mostBlocks + 1
 
 head-below : (texture : ℕ) (s : List ℕ) → Below lineEnd (headLines texture s)
 head-below texture s =
@@ -88,7 +92,7 @@ head-sound texture s z t q =
     same : {a b : SizeFields} {s t : List ℕ} → read a s ≡ read b t → a ≡ b
     same e = cc
 
-table-below : (z : SizeFields) (s : List ℕ) → z .values ≤ 256 → Below lineEnd (tableLines z s)
+table-below : (z : SizeFields) (s : List ℕ) → z .values ≤ mostValues → Below lineEnd (tableLines z s)
 table-below z s h =
     lines-below lineEnd (valueLines (z .values) 4 s) _ (many-below lineEnd valueLine valueMeaning lowAfter (z .values) 4 0 s (omega arith)) (λ table t _.
     line-below lineEnd (4 + z .values) (exactly recordTitle t) noMeaning _ (omega arith) (λ _ u _. tt))
@@ -98,7 +102,7 @@ front-below texture s =
     lines-below lineEnd (headLines texture s) _ (head-below texture s)
     (λ z t e. table-below z t (size-small texture z (head-sound texture s z t e) .values))
 
-rest-below : (A : Aids) (z : SizeFields) (s : List ℕ) → z .values ≤ 256 → blocksIn z ≤ 1024 → Below lineEnd (restLines A z s)
+rest-below : (A : Aids) (z : SizeFields) (s : List ℕ) → z .values ≤ mostValues → blocksIn z ≤ mostBlocks → Below lineEnd (restLines A z s)
 rest-below A z s v m =
     lines-below lineEnd (recordLines (z .n) A (blocksIn z) (5 + z .values) s) _
     (many-below lineEnd recordLine (recordMeaning (z .n) A) unchanged (blocksIn z) (5 + z .values) tt s (omega arith))
@@ -117,4 +121,4 @@ file-below A s =
 pub read-below : (A : Aids) (samples records : ℕ) (s : List ℕ) → Below lineEnd (readFile A samples records s)
 unfolding readFile
 read-below A samples records s =
-    judged-below lineEnd 0 (unless (readLengthsOk samples records (listsOk A)) 2 0) (fileLines A s) (omega arith) (λ _. file-below A s)
+    judged-below lineEnd 0 (refusal ((readLengthsOk samples records (listsOk A), 2) ∷ []) 0) (fileLines A s) (omega arith) (λ _. file-below A s)

@@ -1,29 +1,32 @@
--- Document 01, "House file": both round trips, for every list, count, table and records. Assumes nothing.
+-- Document 01, "House file": both round trips, for every list, count, table and records.
 use Prim.Native.Nat.{ℕ, _≤_, _<_}
 use mathlib.Core.Path.{_≡_, refl, sym, _∙_, ap}
 use mathlib.Core.Bool.{Bool, true, false, _||_}
-use mathlib.Core.List.{List, []}
+use mathlib.Core.List.{List, [], _∷_}
 use mathlib.Core.Logic.{_⊎_, ⊎-elim}
 use native.Mathlib.Omega.{arith}
 use borrow.Author.Tests.{leb-true, lt-ltb, le-leb, eq-eqb}
 use lib.Dec.{eqb, leb}
 use lib.ListN.{length, getD}
-use Rattle.arith.specs.Checks.{unless}
+use Rattle.arith.specs.Checks.{refusal}
 use Rattle.arith.specs.Lists.{listOf}
 use Rattle.arith.proofs.Bools.{both-of}
 use Rattle.arith.proofs.ListLaws.{length-listOf, listOf-at, listOf-ext, listOf-own}
-use Rattle.depth_table.specs.Table.{tableOk, bytes, rising}
+use Rattle.depth_table.specs.Table.{mostValues, tableOk, bytes, rising}
 use Rattle.sheet.specs.declared.Sheet.{Sheet}
-use Rattle.sheet_blocks.specs.Grid.{blocks}
+use Rattle.sheet_grid.specs.Grid.{mostSamples, mostBlocks, blocks}
 use Rattle.sheet.specs.State.{stateOf, area, blocksOf}
 use Rattle.pattern.specs.Size.{sizeOk}
 use Rattle.pattern.specs.Answer.{countOk, textured}
+use Rattle.pattern.proofs.AnswerLaws.{count-is, is-count, is-texture}
 use Rattle.pattern.proofs.SizeLaws.{size-each, each-size}
-use Rattle.record_text.specs.declared.fields.RecordFields.{RecordFields}
+use Rattle.arith.proofs.CheckLaws.{passes}
+use Rattle.record.specs.declared.Record.{Record}
 use Rattle.record_text.specs.Lines.{Lined, read, judged}
 use Rattle.record_text.proofs.LinesLaws.{refused-read}
-use Rattle.record_file.specs.Text.{noRecord, fileText, sizeFieldsOf}
-use Rattle.record_file.specs.Reading.{File, fileOf, Aids, sizeMeaning, fileLines, listsOk, readLengthsOk, ReadLengths, readFile}
+use Rattle.record.specs.Record.{noRecord}
+use Rattle.record_file.specs.Text.{fileText, sizeFieldsOf}
+use Rattle.record_file.specs.Reading.{File, fileOf, Aids, sizeChecks, sizeMeaning, fileLines, listsOk, readLengthsOk, ReadLengths, readFile}
 use Rattle.record_file.specs.Writing.{Source, sourceOf, spaceFor, writeRefusal, writtenText}
 use Rattle.record_file.proofs.MeaningLaws.{written-sound, read-sound}
 use Rattle.record_file.proofs.FileLaws.{FileSound, FileRead, size-small, file-reads, file-wrote}
@@ -37,37 +40,37 @@ module _ (samples records : ℕ) (A : Aids) where
   pub read-lengths : readLengthsOk samples records (listsOk A) ≡ true → ReadLengths samples records A
   unfolding readLengthsOk
   read-lengths h =
-      let a = both-of (leb 16384 samples) _ h in
-      let b = both-of (leb 1024 records) _ (a .1) in
-      let c : (n : ℕ) → sizeOk n ≡ true → (leb (A .count n) (length (A .list n)) ≡ true) × (leb (A .count n) 9999 ≡ true) =
-      λ n s. both-of (leb (A .count n) (length (A .list n))) (leb (A .count n) 9999) (each-size counted n (b .1) s) in
+      let a = both-of (leb mostSamples samples) _ h in
+      let b = both-of (leb mostBlocks records) _ (a .1) in
+      let c : (n : ℕ) → sizeOk n ≡ true → (A .count n ≤ length (A .list n)) × (A .count n ≤ 9999) =
+      λ n s. count-is (length (A .list n)) (A .count n) (each-size counted n (b .1) s) in
       record {
         samples-lent = leb-true _ _ (a .0);
         records-lent = leb-true _ _ (b .0);
-        inside = λ n s. leb-true _ _ (c n s .0);
-        few = λ n s. leb-true _ _ (c n s .1);
+        inside = λ n s. c n s .0;
+        few = λ n s. c n s .1;
       }
 
   pub lengths-read : ReadLengths samples records A → readLengthsOk samples records (listsOk A) ≡ true
   unfolding readLengthsOk
   lengths-read r =
       rw (le-leb _ _ (r .samples-lent), le-leb _ _ (r .records-lent))
-      (size-each counted (λ n s. rw (le-leb _ _ (r .inside n s), le-leb _ _ (r .few n s))))
+      (size-each counted (λ n s. is-count (length (A .list n)) (A .count n) (r .inside n s) (r .few n s)))
 
 -- what a source holds, as a file
 abbrev pub heldBy : Source → File
 heldBy W = fileOf (W .sheet .n) (W .sheet .width) (W .sheet .height) (W .table) (listOf (W .record-at) (blocksOf (W .sheet)))
 
 -- the parts of a sound table
-table-parts : (t : List ℕ) → tableOk t ≡ true → (leb 1 (length t) ≡ true) × (leb (length t) 256 ≡ true) × (bytes t ≡ true) × (rising 0 t ≡ true)
+table-parts : (t : List ℕ) → tableOk t ≡ true → (leb 1 (length t) ≡ true) × (leb (length t) mostValues ≡ true) × (bytes t ≡ true) × (rising 0 t ≡ true)
 unfolding tableOk
 table-parts t h =
     let a = both-of (leb 1 (length t)) _ h in
-    let b = both-of (leb (length t) 256) _ (a .1) in
+    let b = both-of (leb (length t) mostValues) _ (a .1) in
     let c = both-of (bytes t) (rising 0 t) (b .1) in
     (a .0, b .0, c .0, c .1)
 
-pub parts-table : (t : List ℕ) → 1 ≤ length t → length t ≤ 256 → bytes t ≡ true → rising 0 t ≡ true → tableOk t ≡ true
+pub parts-table : (t : List ℕ) → 1 ≤ length t → length t ≤ mostValues → bytes t ≡ true → rising 0 t ≡ true → tableOk t ≡ true
 unfolding tableOk
 parts-table t a b c d = rw (le-leb _ _ a, le-leb _ _ b, c, d)
 
@@ -86,20 +89,14 @@ module _
     abbrev texture : List ℕ
     texture = A .texture
 
-    texture-fits : (eqb (length texture) 0 || eqb (length texture) (area (W .sheet))) ≡ true
-    texture-fits = ⊎-elim (λ e. rw (eq-eqb (length texture) 0 e)) (λ e. either (eqb (length texture) 0) (eq-eqb (length texture) (area (W .sheet)) e)) fits
-      where
-        either : (a : Bool) {b : Bool} → b ≡ true → (a || b) ≡ true
-        either true e = refl
-        either false e = e
-
     held-sound : FileSound A (heldBy W)
     unfolding sizeMeaning
     held-sound =
         let p = accepted-parts W list count records space accepted in
         let t = table-parts (W .table) (p .sound) in
         record {
-          size = rw (p .size, p .sides, texture-fits, t .0, t .1);
+          size = passes (sizeChecks (length texture) (sizeFieldsOf (W .sheet .n) (W .sheet .width) (W .sheet .height) (length (W .table)))) 0
+              (p .size, (p .sides, (is-texture (length texture) (area (W .sheet)) fits, (rw (t .0) (t .1), tt))));
           values = t .2;
           rises = t .3;
           whole = length-listOf (W .record-at) (blocksOf (W .sheet));
@@ -119,7 +116,7 @@ module _
 
 -- ---- and back
 
-judged-read : {B : Type 0} (b : Bool) (next : Lined B) {x : B} {t : List ℕ} → judged (unless b 2 0) 0 next ≡ read x t → (b ≡ true) × (next ≡ read x t)
+judged-read : {B : Type 0} (b : Bool) (next : Lined B) {x : B} {t : List ℕ} → judged (refusal ((b, 2) ∷ []) 0) 0 next ≡ read x t → (b ≡ true) × (next ≡ read x t)
 judged-read true next q = (refl, q)
 judged-read false next q = refused-read q
 
@@ -139,7 +136,7 @@ sheetOf F = stateOf (F .n) (F .width) (F .height) (blocks (F .n) (F .width) (F .
 -- A file that is accepted is byte for byte the one that is written of what was read: writing refuses nothing, and its text is the file.
 module _
     (A : Aids) (samples lent : ℕ) (F : File) (s t : List ℕ) (accepted : readFile A samples lent s ≡ read F t)
-    (at : ℕ → RecordFields) (same : (i : ℕ) → i < length (F .records) → at i ≡ getD (F .records) i noRecord)
+    (at : ℕ → Record) (same : (i : ℕ) → i < length (F .records) → at i ≡ getD (F .records) i noRecord)
   where
     pub read-then-text : writtenText (sourceOf (sheetOf F) (F .table) at) ≡ s
     read-then-text =
@@ -169,6 +166,3 @@ module _
               let k : i < length (F .records) = omega (arith, w) in
               rw (same i k) (written-sound (F .n) (A .list (F .n)) (A .count (F .n)) (textured (A .texture)) (getD (F .records) i noRecord) (f .each i k));
         })
-
-    pub read-nothing-left : t ≡ []
-    read-nothing-left = read-parts A samples lent F s t accepted .1 .nothing-left

@@ -1,23 +1,23 @@
--- Document 01, "House file": reading the text, line by line. Assumes nothing.
+-- Document 01, "House file": reading the text, line by line.
 use Prim.Native.Nat.{ℕ, suc, _+_, _*_, _≤_}
 use mathlib.Core.Bool.{Bool, true, _&&_}
 use mathlib.Core.Path.{_≡_}
-use mathlib.Core.List.{List}
+use mathlib.Core.List.{List, [], _∷_}
 use lib.Dec.{leb, ltb}
 use lib.ListN.{length}
-use Rattle.arith.specs.Checks.{unless}
+use Rattle.arith.specs.Checks.{refusal}
+use Rattle.depth_table.specs.Table.{mostValues}
 use Rattle.pattern.specs.Size.{sizeOk, eachSize, forSize}
 use Rattle.pattern.specs.Words.{patternsOf}
 use Rattle.pattern.specs.Answer.{countOk, textureOk, textured}
-use Rattle.sheet_blocks.specs.Grid.{blocks}
+use Rattle.sheet_grid.specs.Grid.{mostSamples, mostBlocks, blocks}
 use Rattle.sheet.specs.State.{stateOf, sidesOk}
-use Rattle.record_checks.specs.Meaning.{recordRefusal}
+use Rattle.record.specs.Meaning.{recordRefusal}
 use Rattle.record_text.specs.declared.fields.SizeFields.{SizeFields}
-use Rattle.record_text.specs.declared.fields.RecordFields.{RecordFields}
-use Rattle.record_field.specs.Parsed.{exactly}
+use Rattle.record.specs.declared.Record.{Record}
+use Rattle.record_text.specs.Parsed.{exactly}
 use Rattle.record_text.specs.Line.{sizeTitle, depthTitle, recordTitle, sizeLine, valueLine, recordLine}
 use Rattle.record_text.specs.Lines.{Lined, read, judged, line, linesThen, noMeaning, manyLines, ended}
-use Rattle.record_file.specs.Text.{meant}
 
 -- what a file holds
 pub record File : Type 0 where
@@ -25,9 +25,9 @@ pub record File : Type 0 where
   pub width : ℕ
   pub height : ℕ
   pub table : List ℕ
-  pub records : List RecordFields
+  pub records : List Record
 
-abbrev pub fileOf : ℕ → ℕ → ℕ → List ℕ → List RecordFields → File
+abbrev pub fileOf : ℕ → ℕ → ℕ → List ℕ → List Record → File
 fileOf n width height table records = record { n = n; width = width; height = height; table = table; records = records }
 
 -- a file is read with a wedgelet list (document 01: edge list) for each size n, its patterns and their count, and with texture; no
@@ -51,46 +51,38 @@ abbrev pub listsOk : Aids → Bool
 listsOk A = eachSize (λ n. countOk (length (A .list n)) (A .count n))
 
 -- the meaning of line 2. 1: the size; 8: a side; 2: texture neither empty nor of the sheet's size; 3: the table count
+abbrev pub sizeChecks : ℕ → SizeFields → List (Bool × ℕ)
+sizeChecks texture z =
+    (sizeOk (z .n), 1) ∷ (sidesOk (stateOf (z .n) (z .width) (z .height) 0), 8) ∷ (textureOk texture (z .width * z .height), 2)
+    ∷ (leb 1 (z .values) && leb (z .values) mostValues, 3) ∷ []
+
 unfoldable pub sizeMeaning : ℕ → SizeFields → ℕ
-sizeMeaning texture z =
-    unless (sizeOk (z .n)) 1
-    (unless (sidesOk (stateOf (z .n) (z .width) (z .height) 0)) 8
-    (unless (textureOk texture (z .width * z .height)) 2
-    (unless (leb 1 (z .values) && leb (z .values) 256) 3 0)))
+sizeMeaning texture z = refusal (sizeChecks texture z) 0
 
 -- the meaning of a value's line, where low is one more than the value before it. 3: above 255, or not rising
 unfoldable pub valueMeaning : ℕ → ℕ → ℕ
-valueMeaning low v = unless (ltb v 256 && leb low v) 3 0
+valueMeaning low v = refusal ((ltb v 256 && leb low v, 3) ∷ []) 0
 
 abbrev pub lowAfter : ℕ → ℕ → ℕ
 lowAfter low v = suc v
 
 -- the meaning of a record's line for blocks of size n: 7, 21, 6, 5, 4; no line depends on the ones before it
-abbrev pub recordMeaningBy : ℕ → List ℕ → ℕ → Bool → Unit {0} → RecordFields → ℕ
-recordMeaningBy n list count lent c r = recordRefusal n list count lent (meant r)
+abbrev pub recordMeaning : ℕ → Aids → Unit {0} → Record → ℕ
+recordMeaning n A c r = recordRefusal n (A .list n) (A .count n) (textured (A .texture)) r
 
-abbrev pub recordMeaning : ℕ → Aids → Unit {0} → RecordFields → ℕ
-recordMeaning n A = recordMeaningBy n (A .list n) (A .count n) (textured (A .texture))
-
-abbrev pub unchanged : Unit {0} → RecordFields → Unit {0}
+abbrev pub unchanged : Unit {0} → Record → Unit {0}
 unchanged c r = c
 
 -- m table values from line k on, and m records from line k on
 abbrev pub valueLines : ℕ → ℕ → List ℕ → Lined (List ℕ)
 valueLines m k s = manyLines valueLine valueMeaning lowAfter m k 0 s
 
-abbrev pub recordLinesBy : ℕ → List ℕ → ℕ → Bool → ℕ → ℕ → List ℕ → Lined (List RecordFields)
-recordLinesBy n list count lent m k s = manyLines recordLine (recordMeaningBy n list count lent) unchanged m k tt s
-
-abbrev pub recordLines : ℕ → Aids → ℕ → ℕ → List ℕ → Lined (List RecordFields)
-recordLines n A = recordLinesBy n (A .list n) (A .count n) (textured (A .texture))
+abbrev pub recordLines : ℕ → Aids → ℕ → ℕ → List ℕ → Lined (List Record)
+recordLines n A m k s = manyLines recordLine (recordMeaning n A) unchanged m k tt s
 
 -- m records from line k on, and nothing after them: what is left is the line after the last
-abbrev pub lastLinesBy : ℕ → List ℕ → ℕ → Bool → ℕ → ℕ → List ℕ → Lined (List RecordFields)
-lastLinesBy n list count lent m k s = linesThen (recordLinesBy n list count lent m k s) λ records s. ended (k + m) records s
-
-abbrev pub lastLines : ℕ → Aids → ℕ → ℕ → List ℕ → Lined (List RecordFields)
-lastLines n A = lastLinesBy n (A .list n) (A .count n) (textured (A .texture))
+abbrev pub lastLines : ℕ → Aids → ℕ → ℕ → List ℕ → Lined (List Record)
+lastLines n A m k s = linesThen (recordLines n A m k s) λ records s. ended (k + m) records s
 
 -- the first three lines
 abbrev pub headLines : ℕ → List ℕ → Lined SizeFields
@@ -115,7 +107,7 @@ abbrev pub blocksIn : SizeFields → ℕ
 blocksIn z = blocks (z .n) (z .width) (z .height)
 
 -- the records after line 4 + values, and nothing after them
-abbrev pub restLines : Aids → SizeFields → List ℕ → Lined (List RecordFields)
+abbrev pub restLines : Aids → SizeFields → List ℕ → Lined (List Record)
 restLines A z s = lastLines (z .n) A (blocksIn z) (5 + z .values) s
 
 -- the whole text
@@ -127,16 +119,16 @@ fileLines A s =
 
 -- reading is lent 16,384 samples, 1,024 records, and three lists; those of the sizes that the file does not have are judged too
 unfoldable pub readLengthsOk : ℕ → ℕ → Bool → Bool
-readLengthsOk samples records lists = leb 16384 samples && (leb 1024 records && lists)
+readLengthsOk samples records lists = leb mostSamples samples && (leb mostBlocks records && lists)
 
 -- reading a file: the lengths are judged first, as line 0
 unfoldable pub readFile : Aids → ℕ → ℕ → List ℕ → Lined File
 readFile A samples records s =
-    judged (unless (readLengthsOk samples records (listsOk A)) 2 0) 0 (fileLines A s)
+    judged (refusal ((readLengthsOk samples records (listsOk A), 2) ∷ []) 0) 0 (fileLines A s)
 
 -- the lengths where they are not refused
 pub record ReadLengths (samples records : ℕ) (A : Aids) : Type 0 where
-  pub samples-lent : 16384 ≤ samples
-  pub records-lent : 1024 ≤ records
+  pub samples-lent : mostSamples ≤ samples
+  pub records-lent : mostBlocks ≤ records
   pub inside : (n : ℕ) → sizeOk n ≡ true → A .count n ≤ length (A .list n)
   pub few : (n : ℕ) → sizeOk n ≡ true → A .count n ≤ 9999

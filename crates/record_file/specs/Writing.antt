@@ -1,28 +1,31 @@
--- Document 01, "House file": writing. Assumes nothing.
+-- Document 01, "House file": writing.
 use Prim.Native.Nat.{ℕ, zero, suc, _+_, _*_, _≤_}
 use mathlib.Core.Bool.{Bool, true, _&&_}
-use mathlib.Core.List.{List}
+use mathlib.Core.List.{List, [], _∷_, _++_}
 use lib.Dec.{eqb, leb}
 use lib.IntN.{natAbs}
 use lib.ListN.{length}
 use lib.Seq.{sets}
-use Rattle.arith.specs.Checks.{unless, Answer, answer, lent}
-use Rattle.depth_table.specs.Table.{tableOk}
+use Rattle.arith.specs.Checks.{refusal, Answer, answer, lent}
+use Rattle.depth_table.specs.Table.{mostValues, tableOk}
+use Rattle.pattern.specs.Size.{greatestSize}
 use Rattle.pattern.specs.Answer.{countOk}
+use Rattle.sheet_grid.specs.Grid.{longest}
+use Rattle.sheet.specs.Checks.{stateChecks}
 use Rattle.sheet.specs.declared.Sheet.{Sheet}
-use Rattle.sheet.specs.State.{blocksOf, stateRefusal}
-use Rattle.record_checks.specs.Meaning.{recordRefusal}
-use Rattle.record_text.specs.declared.fields.RecordFields.{RecordFields}
+use Rattle.sheet.specs.State.{blocksOf}
+use Rattle.record.specs.Meaning.{recordRefusal}
+use Rattle.record.specs.declared.Record.{Record}
 use Rattle.arith.specs.Lists.{listOf}
-use Rattle.record_file.specs.Text.{fileText, meant}
+use Rattle.record_file.specs.Text.{fileText}
 
 -- what is written: a state, the table, and the record at each place
 pub record Source : Type 0 where
   pub sheet : Sheet
   pub table : List ℕ
-  pub record-at : ℕ → RecordFields
+  pub record-at : ℕ → Record
 
-abbrev pub sourceOf : Sheet → List ℕ → (ℕ → RecordFields) → Source
+abbrev pub sourceOf : Sheet → List ℕ → (ℕ → Record) → Source
 sourceOf S table at = record { sheet = S; table = table; record-at = at }
 
 -- the first of two refusals, 0 for none
@@ -45,7 +48,7 @@ writeLengthsOk S patterns count values records space =
     countOk patterns count && (leb (blocksOf S) records && leb (spaceFor values (blocksOf S)) space)
 
 -- how far the numbers of a record that is not refused go
-pub record Small (r : RecordFields) : Type 0 where
+pub record Small (r : Record) : Type 0 where
   pub kind : r .kind ≤ 1
   pub entry : r .entry ≤ 9998
   pub off0 : natAbs (r .off0) ≤ 255
@@ -53,22 +56,26 @@ pub record Small (r : RecordFields) : Type 0 where
 
 -- how far the numbers of the size line go
 pub record HeadFits (S : Sheet) (values : ℕ) : Type 0 where
-  pub n : S .n ≤ 16
-  pub width : S .width ≤ 128
-  pub height : S .height ≤ 128
-  pub table : values ≤ 256
+  pub n : S .n ≤ greatestSize
+  pub width : S .width ≤ longest
+  pub height : S .height ≤ longest
+  pub table : values ≤ mostValues
 
 -- a record is written without texture, so that 21 is not given: 7, 6, 5, 4
-abbrev pub writtenRefusal : ℕ → List ℕ → ℕ → RecordFields → ℕ
-writtenRefusal n list count r = recordRefusal n list count true (meant r)
+abbrev pub writtenRefusal : ℕ → List ℕ → ℕ → Record → ℕ
+writtenRefusal n list count r = recordRefusal n list count true r
 
--- 1, 2, 8, 23; 22: blocks are missing; 3: the table; then the first bad record; records and space are the lengths of what is lent
+-- 1, 2, 8, 23; 22: blocks are missing; 3: the table; records and space are the lengths of what is lent
+abbrev pub writeChecks : Sheet → List ℕ → ℕ → ℕ → ℕ → ℕ → List (Bool × ℕ)
+writeChecks S table patterns count records space =
+    stateChecks (S .n) (S .width) (S .height) (S .placed) (writeLengthsOk S patterns count (length table) records space)
+    ++ ((eqb (S .placed) (blocksOf S), 22) ∷ (tableOk table, 3) ∷ [])
+
+-- then the first bad record
 unfoldable pub writeRefusal : Source → List ℕ → ℕ → ℕ → ℕ → ℕ
 writeRefusal W list count records space =
-    stateRefusal (W .sheet) (writeLengthsOk (W .sheet) (length list) count (length (W .table)) records space)
-    (unless (eqb (W .sheet .placed) (blocksOf (W .sheet))) 22
-    (unless (tableOk (W .table)) 3
-    (firstTo (λ i. writtenRefusal (W .sheet .n) list count (W .record-at i)) (blocksOf (W .sheet)))))
+    refusal (writeChecks (W .sheet) (W .table) (length list) count records space)
+    (firstTo (λ i. writtenRefusal (W .sheet .n) list count (W .record-at i)) (blocksOf (W .sheet)))
 
 -- the text that is written
 abbrev pub writtenText : Source → List ℕ

@@ -1,9 +1,5 @@
-// The record file (document 01, "House file"): what it says, both round trips, and what writing and reading share.
-mod lent;
+// The record file (document 01, "House file"): what it says, both round trips, and the list that it is read with.
 mod lists;
-mod meaning;
 
-pub use lent::record_at;
 pub use lists::count_for;
 pub use lists::list_for;
-pub use meaning::record_refusal;

@@ -1,4 +1,4 @@
--- A loop that writes lines: what it has written so far. Assumes nothing.
+-- A loop that writes lines: what it has written so far.
 use Prim.Native.Nat.{ℕ, _+_, _*_, _≤_, _<_}
 use mathlib.Core.Path.{_≡_, refl, sym, _∙_, ap}
 use mathlib.Core.Bool.{Bool, true}
@@ -7,7 +7,7 @@ use native.Mathlib.Numerals.{add-one}
 use native.Mathlib.Omega.{arith}
 use lib.ListN.{length}
 use Rattle.arith.specs.Lists.{listOf}
-use Rattle.record_field.specs.declared.cursor.Cursor.{Cursor}
+use Rattle.record_text.specs.declared.cursor.Cursor.{Cursor}
 use Rattle.record_text.specs.Lines.{texts}
 use Rattle.record_text.proofs.LinesLaws.{texts-more, texts-length}
 use Rattle.record_print.specs.Put.{Put, Written, printedIf}

@@ -1,21 +1,27 @@
--- Writing a text that is given whole, and a line that is made apart first. Assumes nothing.
+-- Writing a text that is given whole, and a line that is made apart first.
 use Prim.Native.Nat.{ℕ, suc, _+_, _≤_, _<_}
 use mathlib.Core.Path.{_≡_, refl, sym, _∙_, ap, subst}
-use mathlib.Core.Bool.{Bool, true, false, cond}
-use mathlib.Core.List.{List, _++_}
+use mathlib.Core.Bool.{Bool, true, false, cond, _&&_}
+use mathlib.Core.List.{List, [], _∷_, _++_}
 use native.Mathlib.Omega.{arith}
-use lib.Dec.{leb}
-use lib.ListN.{length, getD, take, drop, set, replicate, length-replicate}
-use lib.Seq.{sets, sets-eq, take-at}
-use borrow.Author.Tests.{le-leb, lt-leb, lt-ltb, ltb-true}
-use Rattle.arith.proofs.Bools.{both-of}
-use Rattle.record_field.specs.declared.cursor.Cursor.{Cursor}
+use native.Mathlib.Numerals.{add-one}
+use lib.Dec.{leb, eqb}
+use lib.IntN.{ℤ, pos, negsuc, natAbs}
+use lib.ListN.{length, getD, take, drop, set, length-append, drop-of-length-le}
+use lib.Seq.{sets, sets-eq, take-at, length-take-le, drop-cons}
+use borrow.Author.Tests.{le-leb, lt-leb, lt-ltb}
+use Rattle.record_text.specs.declared.cursor.Cursor.{Cursor}
 use Rattle.record_text.specs.declared.fields.SizeFields.{SizeFields}
-use Rattle.record_text.specs.declared.fields.RecordFields.{RecordFields}
-use Rattle.record_text.specs.Printable.{SizePrintable, RecordPrintable}
-use Rattle.record_field.proofs.ReadSteps.{at-place}
-use Rattle.record_print.specs.Put.{Put, Written, printedIf, sizePrintable, recordPrintable}
-use Rattle.record_print.proofs.WriteSteps.{written-length}
+use Rattle.record.specs.declared.Record.{Record}
+use Rattle.record_text.specs.Numeral.{numeralEnd}
+use Rattle.record_text.specs.Codec.{FieldPrintable}
+use Rattle.record_text.specs.Field.{signedText}
+use Rattle.record_text.specs.Line.{endByte, lineText, numberAt, sizeForm, sizeNumbers, recordForm, recordNumbers}
+use Rattle.record_text.specs.Printable.{LinePrintable, SizePrintable, RecordPrintable}
+use Rattle.record_text.proofs.LineSteps.{end-at}
+use Rattle.record_text.proofs.ReadSteps.{at-place}
+use Rattle.record_print.specs.Put.{Put, Written, Made, printedIf, signedPrintable, linePrintable, sizePrintable, recordPrintable}
+use Rattle.record_print.proofs.WriteSteps.{written-length, sets-append}
 
 -- no room: nothing is written
 pub put-no-room : (old text : List ℕ) (from : Cursor) → length old < from .at + length text → Put old old from text from
@@ -76,46 +82,98 @@ copy-step l text at i v h e =
     let z : at + (i + 1) ≡ suc (at + i) = omega arith in
     rw (e, z, at-place text i h)
 
--- ---- a line made from the start of an array of k bytes, and then put
+-- ---- a text made from the start of bytes of its own, and then put
 
-module _ {k len : ℕ} {l text : List ℕ} (made : Written (replicate k 0) l 0 text len) (short : length text ≤ k) where
-  pub made-is : take len l ≡ text
-  made-is =
-      ap (take len) (made .lent ∙ sets-eq text (replicate k 0) 0 (omega (arith, length-replicate {A = ℕ} k 0)))
-      ∙ take-at text (drop (0 + length text) (replicate k 0)) len (omega (arith, made .place))
+pub written-made : {old new text : List ℕ} {len : ℕ} → length text ≤ length old → Written old new 0 text len → Made new text len
+written-made {old} {new} {text} {len} h w = record {
+  inside = omega (arith, w .place, written-length w);
+  is = ap (take len) (w .lent ∙ sets-eq text old 0 (omega arith)) ∙ take-at text (drop (0 + length text) old) len (omega (arith, w .place));
+}
 
-  pub made-inside : len ≤ length l
-  made-inside = omega (arith, made .place, written-length made, length-replicate {A = ℕ} k 0)
+pub made-length : {bytes text : List ℕ} {len : ℕ} → Made bytes text len → len ≡ length (take len bytes)
+made-length {bytes} {text} {len} m = sym (length-take-le len bytes (m .inside))
 
-  pub made-length : len ≡ length (take len l)
-  made-length = omega (arith, made .place, ap length made-is)
+pub made-put :
+    {bytes text old new : List ℕ} {len : ℕ} {from next : Cursor} → Made bytes text len → Put old new from (take len bytes) next → Put old new from text next
+made-put {bytes} {text} {old} {new} {len} {from} {next} m w = subst (λ (x : List ℕ). Put old new from x next) (m .is) w
 
-  pub put-made :
-      {b : Bool} {old new : List ℕ} {from next : Cursor} → b ≡ true → Put old new from (take len l) next → Put old new from (printedIf b text) next
-  put-made {b} {old} {new} {from} {next} e w = rw e (subst (λ (x : List ℕ). Put old new from x next) made-is w)
+-- no text is made of a line with a number that has no numeral
+pub none-made : (line text : List ℕ) (b : Bool) → b ≡ false → Made line (printedIf b text) 0
+none-made line text b e = rw e (record { inside = omega arith; is = refl })
 
--- ---- which values can be printed
+-- and all of one whose numbers have
+pub all-made : {bytes text : List ℕ} {len : ℕ} (b : Bool) → b ≡ true → Made bytes text len → Made bytes (printedIf b text) len
+all-made b e m = rw e m
 
-pub size-printable : (h : SizeFields) → sizePrintable h ≡ true → SizePrintable h
-unfolding sizePrintable
-size-printable h e =
-    let a = both-of _ _ e in
-    let b = both-of _ _ (a .1) in
-    let c = both-of _ _ (b .1) in
-    record { n = ltb-true _ _ (a .0); width = ltb-true _ _ (b .0); height = ltb-true _ _ (c .0); values = ltb-true _ _ (c .1) }
+-- ---- which lines can be printed
+
+-- a line whose form is right can
+pub line-printed : (form : List Bool) (l : List ℤ) → LinePrintable form l → linePrintable l ≡ true
+line-printed [] [] h = refl
+line-printed [] (z ∷ l) h = absurd h
+line-printed (m ∷ form) [] h = absurd h
+line-printed (m ∷ form) (z ∷ l) h = rw (lt-ltb (natAbs z) numeralEnd (small m z (h .0))) (line-printed form l (h .1))
+  where
+    small : (m : Bool) (z : ℤ) → FieldPrintable m z → natAbs z < numeralEnd
+    small true z h = h
+    small false (pos n) h = h
+    small false (negsuc n) h = absurd h
+
+-- whether those from place k on have one, by the number there
+pub printable-from : (l : List ℤ) (k : ℕ) (b : Bool) → k < length l → b ≡ signedPrintable (numberAt l k) → linePrintable (drop k l) ≡ b && linePrintable (drop (k + 1) l)
+printable-from l k b h e = rw (drop-cons l k (pos 0) h, add-one k, e)
 
 pub size-printed : (h : SizeFields) → SizePrintable h → sizePrintable h ≡ true
 unfolding sizePrintable
-size-printed h p = rw (lt-ltb _ _ (p .n), lt-ltb _ _ (p .width), lt-ltb _ _ (p .height), lt-ltb _ _ (p .values))
+size-printed h p = line-printed sizeForm (sizeNumbers h) p
 
-pub record-printable : (r : RecordFields) → recordPrintable r ≡ true → RecordPrintable r
+pub record-printed : (r : Record) → RecordPrintable r → recordPrintable r ≡ true
 unfolding recordPrintable
-record-printable r e =
-    let a = both-of _ _ e in
-    let b = both-of _ _ (a .1) in
-    let c = both-of _ _ (b .1) in
-    record { kind = ltb-true _ _ (a .0); entry = ltb-true _ _ (b .0); off0 = ltb-true _ _ (c .0); off1 = ltb-true _ _ (c .1) }
+record-printed r p = line-printed recordForm (recordNumbers r) p
 
-pub record-printed : (r : RecordFields) → RecordPrintable r → recordPrintable r ≡ true
-unfolding recordPrintable
-record-printed r p = rw (lt-ltb _ _ (p .kind), lt-ltb _ _ (p .entry), lt-ltb _ _ (p .off0), lt-ltb _ _ (p .off1))
+-- the same numbers, named otherwise
+pub line-as :
+    (l m : List ℤ) {old new : List ℕ} {from next : Cursor} → Put old new from (printedIf (linePrintable l) (lineText l)) next → l ≡ m
+    → Put old new from (printedIf (linePrintable m) (lineText m)) next
+line-as l m {old} {new} {from} {next} w e = subst (λ (x : List ℤ). Put old new from (printedIf (linePrintable x) (lineText x)) next) e w
+
+-- ---- a line written number by number: those from place k on are left
+
+-- the numbers that are left, written to the bytes as they are, give what the whole line gives
+pub record Left (numbers : List ℤ) (old : List ℕ) (k : ℕ) (line : List ℕ) (p : ℕ) : Type 0 where
+  pub lent : sets line p (lineText (drop k numbers)) ≡ sets old 0 (lineText numbers)
+  pub place : p + length (lineText (drop k numbers)) ≡ length (lineText numbers)
+  pub room : length line ≡ length old
+
+module _ (numbers : List ℤ) (old : List ℕ) (k : ℕ) (line : List ℕ) (p : ℕ) (left : Left numbers old k line p) where
+  module _ (h : k < length numbers) where
+    abbrev here : List ℕ
+    here = signedText (endByte (eqb (k + 1) (length numbers))) (numberAt numbers k)
+
+    here-left : lineText (drop k numbers) ≡ here ++ lineText (drop (suc k) numbers)
+    here-left = rw (drop-cons numbers k (pos 0) h, end-at numbers k h)
+
+    -- there is room for the next one, and then it is written
+    pub left-room : length (lineText numbers) ≤ length old → p + length here ≤ length line
+    left-room r = omega (arith, left .place, left .room, ap length here-left, length-append here (lineText (drop (suc k) numbers)))
+
+    pub left-more : {line′ : List ℕ} {q : ℕ} → Written line line′ p here q → Left numbers old (k + 1) line′ q
+    left-more {line′} {q} w =
+        rw (add-one k)
+        (record {
+          lent = rw (w .lent, w .place, ← sets-append here (lineText (drop (suc k) numbers)) line p, ← here-left) (left .lent);
+          place = omega (arith, left .place, w .place, ap length here-left, length-append here (lineText (drop (suc k) numbers)));
+          room = written-length w ∙ left .room;
+        })
+
+  -- all are written
+  left-none : length numbers ≤ k → Written old line 0 (lineText numbers) p
+  left-none h =
+      let e = ap lineText (drop-of-length-le numbers h) in
+      record { lent = ap (sets line p) (sym e) ∙ left .lent; place = omega (arith, left .place, ap length e) }
+
+  pub line-made :
+      length numbers ≤ k → length (lineText numbers) ≤ length old → linePrintable (drop k numbers) ≡ linePrintable numbers
+      → Made line (printedIf (linePrintable numbers) (lineText numbers)) p
+  line-made h r e =
+      all-made (linePrintable numbers) (sym e ∙ ap linePrintable (drop-of-length-le numbers h)) (written-made r (left-none h))

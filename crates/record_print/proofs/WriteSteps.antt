@@ -1,4 +1,4 @@
--- The steps of writing as the code takes them: texts that are written one after the other, and a numeral digit by digit. Assumes nothing.
+-- The steps of writing as the code takes them: texts that are written one after the other, and a numeral digit by digit.
 use Prim.Native.Nat.{ℕ, zero, suc, _+_, _-_, _/_, _%_, _^_, _≤_, _<_}
 use mathlib.Core.Path.{_≡_, refl, _∙_, ap, subst}
 use mathlib.Core.Bool.{true, false}
@@ -12,9 +12,9 @@ use lib.Seq.{sets, length-sets}
 use lib.Signed.{ltZ}
 use borrow.Author.Tests.{ltb-true}
 use Rattle.arith.proofs.Bools.{clash}
-use Rattle.record_field.specs.Numeral.{digitsOf, signedNumeral}
-use Rattle.record_field.specs.Field.{numberText, signedText}
-use Rattle.record_field.proofs.NumeralLaws.{ten-pow, digit-lt}
+use Rattle.record_text.specs.Numeral.{digitsOf, signedNumeral}
+use Rattle.record_text.specs.Field.{numberText, signedText}
+use Rattle.record_text.proofs.NumeralLaws.{ten-pow, digit-lt}
 use Rattle.record_print.specs.Put.{Written}
 
 -- ---- one text after the other
@@ -52,22 +52,22 @@ room-next {l₀} {l₁} {v} {p} {q} w h a = omega (arith, length-append v w, a .
 -- ---- one digit of a numeral
 
 pub digit-written :
-    (l : List ℕ) (p k r u : ℕ) → 0 < k → u ≡ 10 ^ (k - 1)
-    → sets (set l p (48 + r / u)) (p + 1) (digitsOf (k - 1) (r % u)) ≡ sets l p (digitsOf k r)
+    (l : List ℕ) (p k r q m : ℕ) → 0 < k → q ≡ r / 10 ^ (k - 1) → m ≡ r % 10 ^ (k - 1)
+    → sets (set l p (48 + q)) (p + 1) (digitsOf (k - 1) m) ≡ sets l p (digitsOf k r)
 unfolding digitsOf
-digit-written l p zero r u h e = absurd (omega arith)
-digit-written l p (suc k) r u h e =
+digit-written l p zero r q m h e f = absurd (omega arith)
+digit-written l p (suc k) r q m h e f =
     let z : suc k - 1 ≡ k = omega arith in
-    rw (e, z, add-one p)
+    rw (e, f, z, add-one p)
 
-pub digit-small : (k r u : ℕ) → 0 < k → u ≡ 10 ^ (k - 1) → r < 10 ^ k → r / u < 10
-digit-small zero r u h e l = absurd (omega arith)
-digit-small (suc k) r u h e l =
+pub digit-small : (k r q : ℕ) → 0 < k → q ≡ r / 10 ^ (k - 1) → r < 10 ^ k → q < 10
+digit-small zero r q h e l = absurd (omega arith)
+digit-small (suc k) r q h e l =
     let z : suc k - 1 ≡ k = omega arith in
     rw (e, z) (digit-lt k r l)
 
-pub rest-small : (k r u : ℕ) → u ≡ 10 ^ k → r % u < 10 ^ k
-rest-small k r u e = rw e (mod-lt r (ten-pow k))
+pub rest-small : (k r m : ℕ) → m ≡ r % 10 ^ k → m < 10 ^ k
+rest-small k r m e = rw e (mod-lt r (ten-pow k))
 
 -- a number below 5 that is none of 0 to 3
 pub four : (k : ℕ) → k < 5 → (k ≡ 0 → ⊥) → (k ≡ 1 → ⊥) → (k ≡ 2 → ⊥) → (k ≡ 3 → ⊥) → k ≡ 4

@@ -1,2 +1,2 @@
--- The definitions that the contracts of `record_print` cite beside those of `record_field` and `record_text`.
+-- The definitions that the contracts of `record_print` cite beside those of `record_text`.
 pub mod Put

@@ -1,16 +1,17 @@
--- Writing a text at a place of lent bytes: all of it where there is room, else nothing. Assumes nothing.
-use Prim.Native.Nat.{ℕ, _+_}
+-- Writing a text at a place of lent bytes: all of it where there is room, else nothing.
+use Prim.Native.Nat.{ℕ, _+_, _≤_}
 use mathlib.Core.Path.{_≡_}
-use mathlib.Core.Bool.{Bool, cond, _&&_}
-use mathlib.Core.List.{List, []}
+use mathlib.Core.Bool.{Bool, true, cond, _&&_}
+use mathlib.Core.List.{List, [], _∷_}
 use lib.Dec.{leb, ltb}
 use lib.IntN.{ℤ, natAbs}
-use lib.ListN.{length}
+use lib.ListN.{length, take}
 use lib.Seq.{sets}
-use Rattle.record_field.specs.declared.cursor.Cursor.{Cursor}
+use Rattle.record_text.specs.declared.cursor.Cursor.{Cursor}
 use Rattle.record_text.specs.declared.fields.SizeFields.{SizeFields}
-use Rattle.record_text.specs.declared.fields.RecordFields.{RecordFields}
-use Rattle.record_field.specs.Numeral.{numeralEnd}
+use Rattle.record.specs.declared.Record.{Record}
+use Rattle.record_text.specs.Numeral.{numeralEnd}
+use Rattle.record_text.specs.Line.{sizeNumbers, recordNumbers}
 
 -- the bytes afterwards: `sets` puts the text's bytes in turn from the place on
 abbrev pub pasted : List ℕ → ℕ → List ℕ → List ℕ
@@ -30,6 +31,11 @@ pub record Written (old new : List ℕ) (at : ℕ) (text : List ℕ) (next : ℕ
   pub lent : new ≡ sets old at text
   pub place : next ≡ at + length text
 
+-- the same of a text made from the start of bytes of its own: `len` of them are the text
+pub record Made (bytes text : List ℕ) (len : ℕ) : Type 0 where
+  pub inside : len ≤ length bytes
+  pub is : take len bytes ≡ text
+
 -- a text of values that can be printed, else no text
 abbrev pub printedIf : Bool → List ℕ → List ℕ
 printedIf printable text = cond printable text []
@@ -42,10 +48,15 @@ numberPrintable n = ltb n numeralEnd
 abbrev pub signedPrintable : ℤ → Bool
 signedPrintable z = ltb (natAbs z) numeralEnd
 
--- whether each number of a size line has one
-unfoldable pub sizePrintable : SizeFields → Bool
-sizePrintable h = numberPrintable (h .n) && (numberPrintable (h .width) && (numberPrintable (h .height) && numberPrintable (h .values)))
+-- whether each number of a line has one
+abbrev pub linePrintable : List ℤ → Bool
+linePrintable [] = true
+linePrintable (z ∷ others) = signedPrintable z && linePrintable others
 
--- whether each number of a record line has one
-unfoldable pub recordPrintable : RecordFields → Bool
-recordPrintable r = numberPrintable (r .kind) && (numberPrintable (r .entry) && (signedPrintable (r .off0) && signedPrintable (r .off1)))
+-- of a size line
+unfoldable pub sizePrintable : SizeFields → Bool
+sizePrintable h = linePrintable (sizeNumbers h)
+
+-- of a record line
+unfoldable pub recordPrintable : Record → Bool
+recordPrintable r = linePrintable (recordNumbers r)

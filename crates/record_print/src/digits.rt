@@ -1,10 +1,10 @@
 // Writing the texts of numbers where there is room.
 ghost use mathlib.Core.Path.{_≡_};
-ghost use Prim.Native.Nat.{suc, _+_, _^_, _≤_, _<_};
+ghost use Prim.Native.Nat.{suc, _+_, _/_, _%_, _^_, _≤_, _<_};
 ghost use lib.IntN.{natAbs};
 ghost use lib.ListN.{length};
-ghost use Rattle.record_field.specs.Numeral.{furtherDigits, numeral, numeralEnd};
-ghost use Rattle.record_field.specs.Field.{numberText, signedText};
+ghost use Rattle.record_text.specs.Numeral.{furtherDigits, numeral, numeralEnd};
+ghost use Rattle.record_text.specs.Field.{numberText, signedText};
 ghost use Rattle.record_print.specs.Put.{Written};
 
 // How many digits the numeral of x has.
@@ -26,17 +26,31 @@ fn digit_count(x: u32) -> u32
     1
 }
 
-// 10 to the power k.
-fn power_of_ten(k: u32) -> u32
+// The digit of x before its last k, of a number with k + 1 digits.
+fn digit_before(x: u32, k: u32) -> u32
     requires { ⌜ k < 5 ⌝ }
-    ensures { λ r. ⌜ r ≡ 10 ^ k ⌝ }
+    ensures { λ r. ⌜ r ≡ x / 10 ^ k ⌝ }
 {
     match k {
-        0 => 1,
-        1 => 10,
-        2 => 100,
-        3 => 1000,
-        _ => 10000,
+        0 => x / 1,
+        1 => x / 10,
+        2 => x / 100,
+        3 => x / 1000,
+        _ => x / 10000,
+    }
+}
+
+// Its last k digits.
+fn last_digits(x: u32, k: u32) -> u32
+    requires { ⌜ k < 5 ⌝ }
+    ensures { λ r. ⌜ r ≡ x % 10 ^ k ⌝ }
+{
+    match k {
+        0 => x % 1,
+        1 => x % 10,
+        2 => x % 100,
+        3 => x % 1000,
+        _ => x % 10000,
     }
 }
 
@@ -50,9 +64,8 @@ fn write_numeral(out: &mut [u8], at: usize, x: u32) -> usize
     let mut p = at;
     while 0 < left {
         left -= 1;
-        let unit = power_of_ten(left);
-        out[p] = (48 + rest / unit) as u8;
-        rest = rest % unit;
+        out[p] = (48 + digit_before(rest, left)) as u8;
+        rest = last_digits(rest, left);
         p += 1;
     }
     p
@@ -69,7 +82,7 @@ pub(crate) fn write_number(out: &mut [u8], at: usize, x: u32, end: u8) -> usize
 }
 
 // How far z is from 0.
-fn magnitude(z: i32) -> u32
+fn magnitude(z: i64) -> u32
     requires { ⌜ natAbs z < numeralEnd ⌝ }
     ensures { λ r. ⌜ r ≡ natAbs z ⌝ }
 {
@@ -82,7 +95,7 @@ fn magnitude(z: i32) -> u32
 }
 
 // Writes a signed number and the byte `end`.
-pub(crate) fn write_signed(out: &mut [u8], at: usize, z: i32, end: u8) -> usize
+pub(crate) fn write_signed(out: &mut [u8], at: usize, z: i64, end: u8) -> usize
     requires { ⌜ (natAbs z < numeralEnd) × (at + length (signedText end z) ≤ length (now out)) ⌝ }
     ensures { λ r. ⌜ Written (now (out .entry)) (now (out .exit)) at (signedText end z) r ⌝ }
 {

@@ -6,7 +6,6 @@ mod put_line;
 pub use put::put_depth_title;
 pub use put::put_number;
 pub use put::put_record_title;
-pub use put::put_signed;
 pub use put::put_size_title;
 pub use put::put_text;
 pub use put::put_value_line;

@@ -1,11 +1,10 @@
 // Writing texts, fields and lines at a place of lent bytes: all of a text where there is room, else nothing.
 ghost use mathlib.Core.Path.{_≡_};
-ghost use Rattle.record_field.specs.Field.{numberText, signedText};
+ghost use Rattle.record_text.specs.Field.{numberText};
 ghost use Rattle.record_text.specs.Line.{sizeTitle, depthTitle, recordTitle, valueText};
 ghost use Rattle.record_print.specs.Put.{Put, printedIf, numberPrintable, signedPrintable};
 use crate::digits::write_number;
-use crate::digits::write_signed;
-use record_field::Cursor;
+use record_text::Cursor;
 
 // Writes the bytes `text`, and answers the place after them.
 pub fn put_text(out: &mut [u8], from: Cursor, text: &[u8]) -> Cursor
@@ -55,7 +54,7 @@ pub(crate) fn number_printable(x: u32) -> bool
 }
 
 // Whether z has a numeral behind its sign.
-pub(crate) fn signed_printable(z: i32) -> bool
+pub(crate) fn signed_printable(z: i64) -> bool
     ensures { λ r. ⌜ r ≡ signedPrintable z ⌝ }
 {
     -100000 < z && z < 100000
@@ -70,18 +69,6 @@ pub fn put_number(out: &mut [u8], from: Cursor, x: u32, end: u8) -> Cursor
     }
     let mut line = [0u8; 8];
     let len = write_number(&mut line, 0, x, end);
-    put_text(out, from, &line[..len])
-}
-
-// A signed number and the byte `end`; nothing for a number without a numeral.
-pub fn put_signed(out: &mut [u8], from: Cursor, z: i32, end: u8) -> Cursor
-    ensures { λ r. ⌜ Put (now (out .entry)) (now (out .exit)) from (printedIf (signedPrintable z) (signedText end z)) r ⌝ }
-{
-    if !signed_printable(z) {
-        return from;
-    }
-    let mut line = [0u8; 8];
-    let len = write_signed(&mut line, 0, z, end);
     put_text(out, from, &line[..len])
 }
 

@@ -1,91 +1,95 @@
-// Writing the line of the size and the line of a record: a line is made apart, and then put where there is room.
-ghost use mathlib.Core.Bool.{_&&_};
+// Writing a line of numbers: it is made apart, and then put where there is room.
 ghost use mathlib.Core.Path.{_≡_};
-ghost use Prim.Native.Nat.{_≤_};
+ghost use Prim.Native.Nat.{_≤_, _<_};
+ghost use lib.IntN.{pos};
 ghost use lib.ListN.{length};
-ghost use Rattle.record_text.specs.Line.{sizeText, recordText};
-ghost use Rattle.record_text.specs.Printable.{SizePrintable, RecordPrintable};
-ghost use Rattle.record_print.specs.Put.{Put, Written, printedIf, sizePrintable, recordPrintable};
-use crate::digits::write_number;
+ghost use Rattle.record_text.specs.Line.{numberAt, lineText, sizeText, recordText};
+ghost use Rattle.record_print.specs.Put.{Put, Made, printedIf, linePrintable, sizePrintable, recordPrintable};
 use crate::digits::write_signed;
-use crate::put::number_printable;
 use crate::put::put_text;
 use crate::put::signed_printable;
-use record_field::Cursor;
-use record_text::RecordFields;
+use record::Record;
+use record_text::Cursor;
 use record_text::SizeFields;
+use record_text::end_byte;
 
-// a and b.
-fn both(a: bool, b: bool) -> bool
-    ensures { λ r. ⌜ r ≡ a && b ⌝ }
+// Number k of a line.
+fn number_at(numbers: &[i64], k: usize) -> i64
+    requires { ⌜ k < length (now numbers) ⌝ }
+    ensures { λ r. ⌜ r ≡ numberAt (now (numbers .entry)) k ⌝ }
 {
-    if a { b } else { false }
+    numbers[k]
 }
 
-// Whether each number of a size line has a numeral.
-fn size_printable(h: SizeFields) -> bool
-    ensures { λ r. ⌜ r ≡ sizePrintable h ⌝ }
+// Makes a line from the start of `line`, and answers its length; 0 where a number has no numeral.
+fn write_line(line: &mut [u8], numbers: &[i64]) -> usize
+    requires { ⌜ length (lineText (now numbers)) ≤ length (now line) ⌝ }
+    ensures { λ r.
+        let l = now (numbers .entry) in
+        ⌜ Made (now (line .exit)) (printedIf (linePrintable l) (lineText l)) r ⌝ }
 {
-    let rest = both(number_printable(h.height), number_printable(h.values));
-    let rest = both(number_printable(h.width), rest);
-    both(number_printable(h.n), rest)
+    let mut p = 0;
+    for k in 0..numbers.len() {
+        let z = number_at(numbers, k);
+        if !signed_printable(z) {
+            return 0;
+        }
+        p = write_signed(line, p, z, end_byte(k + 1 == numbers.len()));
+    }
+    p
 }
 
-// Makes a size line from the start of `line`, and answers its length.
-fn write_size(line: &mut [u8], h: SizeFields) -> usize
-    requires { ⌜ (SizePrintable h) × (length (sizeText h) ≤ length (now line)) ⌝ }
-    ensures { λ r. ⌜ Written (now (line .entry)) (now (line .exit)) 0 (sizeText h) r ⌝ }
+// A line of at most 8 numbers; nothing where one has no numeral.
+fn put_line(out: &mut [u8], from: Cursor, numbers: &[i64]) -> Cursor
+    requires { ⌜ length (now numbers) ≤ 8 ⌝ }
+    ensures { λ r.
+        let l = now (numbers .entry) in
+        ⌜ Put (now (out .entry)) (now (out .exit)) from (printedIf (linePrintable l) (lineText l)) r ⌝ }
 {
-    let after_n = write_number(line, 0, h.n, 32);
-    let after_width = write_number(line, after_n, h.width, 32);
-    let after_height = write_number(line, after_width, h.height, 32);
-    write_number(line, after_height, h.values, 10)
+    let mut line = [0u8; 64];
+    let len = write_line(&mut line, numbers);
+    put_text(out, from, &line[..len])
+}
+
+// A number of a line, as it is handed on.
+fn number(x: u32) -> i64
+    ensures { λ r. ⌜ r ≡ pos x ⌝ }
+{
+    x as i64
+}
+
+// The same of one that may be below 0.
+fn signed(z: i32) -> i64
+    ensures { λ r. ⌜ r ≡ z ⌝ }
+{
+    z as i64
 }
 
 // The line of the size; nothing where a number has no numeral.
 pub fn put_size_line(out: &mut [u8], from: Cursor, h: SizeFields) -> Cursor
     ensures { λ r. ⌜ Put (now (out .entry)) (now (out .exit)) from (printedIf (sizePrintable h) (sizeText h)) r ⌝ }
 {
-    if !size_printable(h) {
-        return from;
-    }
-    let mut line = [0u8; 64];
-    let len = write_size(&mut line, h);
-    put_text(out, from, &line[..len])
-}
-
-// Whether each number of a record line has a numeral.
-fn record_printable(r: RecordFields) -> bool
-    ensures { λ t. ⌜ t ≡ recordPrintable r ⌝ }
-{
-    let off0 = r.off0;
-    let off1 = r.off1;
-    let rest = both(signed_printable(off0), signed_printable(off1));
-    let rest = both(number_printable(r.entry), rest);
-    both(number_printable(r.kind), rest)
-}
-
-// Makes a record line from the start of `line`, and answers its length.
-fn write_record(line: &mut [u8], r: RecordFields) -> usize
-    requires { ⌜ (RecordPrintable r) × (length (recordText r) ≤ length (now line)) ⌝ }
-    ensures { λ t. ⌜ Written (now (line .entry)) (now (line .exit)) 0 (recordText r) t ⌝ }
-{
-    let after_kind = write_number(line, 0, r.kind, 32);
-    let after_entry = write_number(line, after_kind, r.entry, 32);
-    let off0 = r.off0;
-    let after_off0 = write_signed(line, after_entry, off0, 32);
-    let off1 = r.off1;
-    write_signed(line, after_off0, off1, 10)
+    put_line(
+        out,
+        from,
+        &[
+            number(h.n),
+            number(h.width),
+            number(h.height),
+            number(h.values),
+        ],
+    )
 }
 
 // The line of a record; nothing where a number has no numeral.
-pub fn put_record_line(out: &mut [u8], from: Cursor, r: RecordFields) -> Cursor
+pub fn put_record_line(out: &mut [u8], from: Cursor, r: Record) -> Cursor
     ensures { λ t. ⌜ Put (now (out .entry)) (now (out .exit)) from (printedIf (recordPrintable r) (recordText r)) t ⌝ }
 {
-    if !record_printable(r) {
-        return from;
-    }
-    let mut line = [0u8; 64];
-    let len = write_record(&mut line, r);
-    put_text(out, from, &line[..len])
+    let off0 = r.off0;
+    let off1 = r.off1;
+    put_line(
+        out,
+        from,
+        &[number(r.kind), number(r.entry), signed(off0), signed(off1)],
+    )
 }

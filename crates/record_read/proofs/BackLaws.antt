@@ -1,33 +1,40 @@
--- What `read` answers and leaves, from what its parts do. Assumes nothing.
-use Prim.Native.Nat.{ℕ, _+_, _*_, _≤_, _<_}
-use mathlib.Core.Path.{_≡_, refl, _∙_, ap}
+-- What `read` answers and leaves, from what its parts do.
+use Prim.Native.Nat.{ℕ, zero, suc, _+_, _*_, _≤_, _<_}
+use mathlib.Core.Path.{_≡_, refl, sym, _∙_, ap, subst}
 use mathlib.Core.Bool.{true, false}
-use mathlib.Core.List.{List, [], _++_}
-use native.Mathlib.Nat.{le-trans, mul-le-mul}
+use mathlib.Core.List.{List, [], _∷_, _++_, map}
+use native.Mathlib.Nat.{mul-le-mul}
 use native.Mathlib.Omega.{arith}
-use lib.IntN.{ℤ}
-use lib.ListN.{length, take, drop, replicate, length-replicate}
-use lib.Seq.{sets, sets-eq, length-sets, take-at, length-take-le}
-use Rattle.sheet.specs.State.{after}
-use Rattle.sheet.specs.Place.{materialOf, placeRefusal, placedInTurn}
-use Rattle.sheet_checks.specs.Checks.{recordsLent}
-use Rattle.record_text.specs.declared.fields.SizeFields.{SizeFields}
-use Rattle.record_text.specs.Lines.{Lined, refusedAt, read}
-use Rattle.record_file.specs.Text.{meant, recordAt}
+use lib.IntN.{ℤ, pos}
+use lib.ListN.{length, length-set, getD, set, take, drop, replicate, length-replicate, length-map, length-append, length-drop}
+use lib.Seq.{sets, sets-eq, length-sets, take-at, take-suc, drop-cons, set-at, append-snoc, length-take-le}
+use Rattle.depth_table.specs.Table.{mostValues}
 use Rattle.pattern.specs.Answer.{countOk}
 use Rattle.pattern.specs.Size.{eachSize, forSize}
 use Rattle.pattern.specs.Words.{wholePatterns}
 use Rattle.pattern.proofs.WordLaws.{length-patterns}
-use Rattle.record_file.specs.Reading.{File, fileOf, Aids, aidsOf, blocksIn, fileLines, listsOk, readLengthsOk, ReadLengths, readFile}
-use Rattle.record_file.proofs.FileLaws.{size-small, file-wrote}
+use Rattle.record.specs.declared.Record.{Record}
+use Rattle.record.specs.Lent.{fieldsOf}
+use Rattle.sheet_grid.specs.Grid.{longest, mostSamples, mostBlocks}
+use Rattle.sheet.specs.State.{blocksOf}
+use Rattle.sheet.specs.Place.{placedInTurn}
+use Rattle.record_text.specs.Lines.{Lined, refusedAt, read, linesThen}
+use Rattle.record_file.specs.Reading.{File, fileOf, Aids, aidsOf, frontLines, fileLines, listsOk, readLengthsOk, readFile}
+use Rattle.record_file.proofs.FileLaws.{size-small, front-parts, file-wrote}
+use Rattle.record_file.proofs.MeaningLaws.{sound-values}
 use Rattle.record_file.proofs.LineBounds.{blocks-few}
-use Rattle.record_lines.specs.declared.whole.LinesBack.{LinesBack}
-use Rattle.record_lines.specs.Stored.{Slices, putRecords}
-use Rattle.record_lines.specs.Back.{linesBack, linesSize, recordsBack, leaving}
+use Rattle.record_read.specs.declared.blocks.Reading.{Reading}
+use Rattle.record_read.specs.declared.front.Front.{Front}
 use Rattle.record_read.specs.declared.reading.FileBack.{FileBack}
-use Rattle.record_read.specs.Back.{emptySheet, materialIn, recordIn, samplesIn, samplesBack, fileBack, sheetOf, tableOf, backOf}
-use Rattle.record_read.proofs.EmptyLaws.{empty-same}
-use Rattle.record_read.proofs.RestLaws.{record-back, lent-same, in-turn-ext, headerOf, file-accepted}
+use Rattle.record_text.specs.declared.cursor.Cursor.{Cursor}
+use Rattle.record_read.specs.declared.loops.LinesRead.{LinesRead}
+use Rattle.record_read.specs.declared.loops.LinesRead.the-variants as linesRead
+use Rattle.record_read.specs.Told.{only, PutIf, frontSize}
+use Rattle.record_read.specs.Back.{materialFor, inTurn, recordsOver, samplesBack, fileBack, Lent, lentOf, leaving, Leaves}
+use Rattle.record_read.specs.Step.{oneList, Begun, FrontRead, Counted, begunAt, tableOf, areaOf, blockLines, withFront, sheetLines, backBy}
+use Rattle.record_read.specs.Step.{Left, placedAll, ReadsAll}
+use Rattle.record_read.proofs.FrontLaws.{only-refused, only-read}
+use Rattle.record_read.proofs.RestLaws.{size-placeable}
 
 -- ---- the lengths
 
@@ -51,165 +58,192 @@ module _ (A : Aids) (samples records : ℕ) (s : List ℕ) where
 -- ---- a refusal: the answer has its number and line, and nothing is altered
 
 pub all-refused :
-    (A : Aids) (old : Slices) (samples : List ℕ) {x : Lined File} {n k : ℕ} {r : FileBack} → x ≡ refusedAt n k → r ≡ fileBack (refusedAt n k)
-    → (r ≡ fileBack x) × ((old ≡ leaving x (λ F. recordsBack F old) old) × (samples ≡ leaving x (λ F. samplesBack A F samples) samples))
-all-refused A old samples e q = rw e (q, (refl, refl))
+    (A : Aids) (before : Lent) {x : Lined File} {n k : ℕ} {r : FileBack} → x ≡ refusedAt n k → r ≡ fileBack (refusedAt n k)
+    → Leaves A x before r before
+all-refused A before e q = rw e (record { answered = q; kept = refl; drawn = refl })
 
--- ---- what was read
+-- where a line before the records is refused, so is the file
+pub file-no : (A : Aids) (s : List ℕ) {n k : ℕ} → frontLines (length (A .texture)) s ≡ refusedAt n k → fileLines A s ≡ refusedAt n k
+unfolding fileLines
+file-no A s e = rw e
 
--- the file that was read; where a line is refused, one of no blocks
-abbrev fileIn : Lined File → File
-fileIn (refusedAt n k) = fileOf 0 0 0 [] []
-fileIn (read F s) = F
+-- ---- copying
 
--- the samples of either
-samples-are :
-    (A : Aids) (x : Lined File) (t : List ℕ) → samplesIn A (fileIn x) ++ drop (fileIn x .width * fileIn x .height) t ≡ leaving x (λ F. samplesBack A F t) t
-unfolding placedInTurn samplesBack
-samples-are A (refusedAt n k) t = refl
-samples-are A (read F u) t = refl
+module _ {A : Type 0} (from to : List A) (m : ℕ) where
+  -- i values are copied to l, as the loop has it
+  abbrev pub Copying : List A → ℕ → Type 0
+  Copying l i = (l ≡ take i from ++ drop i to) × (i ≤ m) × (length l ≡ length to)
 
--- what holds of both
-record Drawable (A : Aids) (F : File) : Type 0 where
-  table : length (F .table) ≤ 256
-  width : F .width ≤ 128
-  height : F .height ≤ 128
-  blocks : blocksIn (headerOf F) ≤ 1024
-  whole : length (F .records) ≡ blocksIn (headerOf F)
-  each : (i : ℕ) → i < blocksIn (headerOf F) → placeRefusal (after i (emptySheet F)) (F .width * F .height) (materialIn A F) (recordIn F i) ≡ 0
-  -- what stood in the first places before makes no difference
-  same :
-      (t : List ℕ) → F .width * F .height ≤ length t
-      → placedInTurn (emptySheet F) (materialIn A F) (recordIn F) (take (F .width * F .height) t) (blocksIn (headerOf F)) ≡ samplesIn A F
+  pub copy-more :
+      (d : A) (i : ℕ) {l : List A} {v : A} → Copying l i → i < m → m ≤ length to → m ≤ length from → v ≡ getD from i d
+      → Copying (set l i v) (i + 1)
+  copy-more d i {l} {v} c h k j q =
+      let n : suc i ≡ i + 1 = omega arith in
+      let o : i < length to = omega arith in
+      let p : i < length from = omega arith in
+      let set-in = set-at (take i from) (getD to i d) (drop (suc i) to) (getD from i d) i (length-take-le i from (omega arith)) in (
+        ap (set l i) q
+            ∙ ap (λ (x : List A). set x i (getD from i d)) (c .0)
+            ∙ rw (drop-cons to i d o, set-in)
+            (sym (append-snoc (take i from) (getD from i d) (drop (suc i) to))
+            ∙ ap (λ (x : List A). x ++ drop (suc i) to) (sym (take-suc from i d p))
+            ∙ ap (λ (j : ℕ). take j from ++ drop j to) n),
+        omega arith,
+        length-set l i v ∙ c .2,
+      )
 
-drawable :
-    (A : Aids) (s : List ℕ) (x : Lined File) → fileLines A s ≡ x → {samples records : ℕ} → ReadLengths samples records A → Drawable A (fileIn x)
-unfolding placedInTurn
-drawable A s (refusedAt n k) e lengths =
-    record {
-      table = omega arith;
-      width = omega arith;
-      height = omega arith;
-      blocks = omega arith;
-      whole = refl;
-      each = λ i l. absurd (omega (arith, l));
-      same = λ t l. refl;
-    }
-drawable A s (read F u) e lengths =
-    let ok = file-wrote A F s u e .sound in
-    let z = size-small (length (A .texture)) (headerOf F) (ok .size) in
-    record {
-      table = z .values;
-      width = z .width;
-      height = z .height;
-      blocks = blocks-few (length (A .texture)) (headerOf F) (ok .size);
-      whole = ok .whole;
-      each = file-accepted A F ok (lengths .inside (F .n) (z .size)) (lengths .few (F .n) (z .size));
-      same = λ t l.
-          empty-same (F .n) (F .width) (F .height) (z .size) (z .sides) (materialIn A F) (recordIn F) (take (F .width * F .height) t)
-          (length-take-le (F .width * F .height) t l);
-    }
+  pub copy-end : (i : ℕ) {l : List A} → Copying l i → m ≤ i → l ≡ take m from ++ drop m to
+  copy-end i c h = let e : i ≡ m = omega (arith, c .1) in c .0 ∙ ap (λ (j : ℕ). take j from ++ drop j to) e
 
--- the first values of the array are the table
-table-first : (t : List ℕ) → length t ≤ 256 → take (length t) (sets (replicate 256 0) 0 t) ≡ t
+abbrev pub zeros : ℕ → List ℕ
+zeros m = replicate m 0
+
+abbrev pub noRecords : List (List ℤ)
+noRecords = replicate mostBlocks (replicate 4 (pos 0))
+
+take-zeros : (k m : ℕ) → k ≤ m → take k (zeros m) ≡ zeros k
+take-zeros zero m h = refl
+take-zeros (suc k) zero h = absurd (omega arith)
+take-zeros (suc k) (suc m) h = ap (λ (l : List ℕ). 0 ∷ l) (take-zeros k m (omega arith))
+
+-- ---- after the lines before the records
+
+pub table-first : (t : List ℕ) → length t ≤ mostValues → take (length t) (sets (replicate mostValues 0) 0 t) ≡ t
 table-first t h =
-    ap (take (length t)) (sets-eq t (replicate 256 0) 0 (omega (arith, length-replicate {A = ℕ} 256 0)))
-    ∙ take-at t (drop (0 + length t) (replicate 256 0)) (length t) refl
+    ap (take (length t)) (sets-eq t (replicate mostValues 0) 0 (omega (arith, length-replicate {A = ℕ} mostValues 0)))
+    ∙ take-at t (drop (0 + length t) (replicate mostValues 0)) (length t) refl
 
--- the lines' answer b and the lent records afterwards, where reading gives x
-module _
-    (A : Aids) (s : List ℕ) (x : Lined File) (read-as : fileLines A s ≡ x) {samples records : ℕ} (lengths : ReadLengths samples records A)
-    (b : LinesBack) (told : b ≡ linesBack x)
-  where
-    file : Drawable A (fileIn x)
-    file = drawable A s x read-as lengths
+-- the answer where a line is refused
+pub back-refused :
+    (f : Front) {t : LinesRead} {n k : ℕ} {r : FileBack} → t ≡ linesRead.Refused n k → r ≡ fileBack (refusedAt n k) → r ≡ backBy f t
+back-refused f e q = rw e q
 
-    size-is : linesSize b ≡ headerOf (fileIn x)
-    size-is = ap linesSize told ∙ go x
-      where
-        go : (x : Lined File) → linesSize (linesBack x) ≡ headerOf (fileIn x)
-        go (refusedAt n k) = refl
-        go (read F u) = refl
+module _ (A : Aids) (s : List ℕ) (f : Front) (front : FrontRead (length (A .texture)) s f) where
+  pub values-few : f .values ≤ mostValues
+  values-few = size-small (length (A .texture)) (frontSize f) (front .size) .values
 
-    n-is : b .n ≡ fileIn x .n
-    n-is = ap (λ (z : SizeFields). z .n) size-is
+  pub sides-few : (f .width ≤ longest) × (f .height ≤ longest)
+  sides-few = let z = size-small (length (A .texture)) (frontSize f) (front .size) in (z .width, z .height)
 
-    width-is : b .width ≡ fileIn x .width
-    width-is = ap (λ (z : SizeFields). z .width) size-is
+  pub area-few : areaOf f ≤ mostSamples
+  area-few = mul-le-mul {n₁ = f .width} {m₁ = f .height} {n₂ = longest} {m₂ = longest} (sides-few .0) (sides-few .1)
 
-    height-is : b .height ≡ fileIn x .height
-    height-is = ap (λ (z : SizeFields). z .height) size-is
+  pub blocks-fit : blocksOf (begunAt f .sheet) ≤ mostBlocks
+  blocks-fit = blocks-few (length (A .texture)) (frontSize f) (front .size)
 
-    values-is : b .values ≡ length (fileIn x .table)
-    values-is = ap (λ (z : SizeFields). z .values) size-is
+  pub values-room : f .values ≤ length (f .table)
+  values-room =
+      let array : List ℕ = replicate mostValues 0 in
+      omega (arith, values-few, ap length (front .held), length-sets array 0 (front .table), length-replicate {A = ℕ} mostValues 0)
 
-    array-is : b .table ≡ sets (replicate 256 0) 0 (fileIn x .table)
-    array-is = ap (λ (y : LinesBack). y .table) told ∙ go x
-      where
-        go : (x : Lined File) → linesBack x .table ≡ sets (replicate 256 0) 0 (fileIn x .table)
-        go (refusedAt n k) = refl
-        go (read F u) = refl
+  table-is : tableOf f ≡ front .table
+  table-is = rw (← (front .count), front .held) (table-first (front .table) (omega (arith, values-few, front .count)))
 
-    -- the sheet has no more samples than have to be lent
-    area-few : fileIn x .width * fileIn x .height ≤ 16384
-    area-few = mul-le-mul {n₁ = fileIn x .width} {m₁ = fileIn x .height} {n₂ = 128} {m₂ = 128} (file .width) (file .height)
+  pub begun : (records : ℕ) → Counted A (f .n) → mostBlocks ≤ records → Begun A (tableOf f) (begunAt f) (areaOf f) records
+  begun records counted room =
+      let p = front-parts (length (A .texture)) s (frontSize f) (front .table) (drop (f .at) s) (front .is) in
+      let v = sound-values (front .table) 0 (p .each) in
+      record {
+        empty = refl;
+        placeable = rw table-is (size-placeable A (frontSize f) (front .table) (front .size) (front .count) (v .0) (v .1) counted);
+        room = room;
+        low = omega (arith, values-few);
+      }
 
-    -- the table and the samples have room
-    pub fits : (b .values ≤ length (b .table)) × (b .width * b .height ≤ samples) × (b .width ≤ 128) × (b .height ≤ 128)
-    fits =
-        let F = fileIn x in
-        let t : length (F .table) ≤ length (sets (replicate 256 0) 0 (F .table)) = omega (arith, length-sets (replicate 256 0) 0 (F .table), length-replicate {A = ℕ} 256 0, file .table) in
-        rw (width-is, height-is, values-is, array-is) (t, le-trans area-few (lengths .samples-lent), file .width, file .height)
+  -- the file, once those lines are read
+  pub file-is : fileLines A s ≡ sheetLines A f s
+  unfolding fileLines
+  file-is = rw (front .is, table-is)
 
-    pub blocks-fit : blocksIn (linesSize b) ≤ 1024
-    blocks-fit = rw size-is (file .blocks)
+  -- all is read: what is copied to the lent slices
+  abbrev first : Left
+  first = (take (areaOf f) (zeros mostSamples), noRecords)
 
-    table-is : tableOf b ≡ fileIn x .table
-    table-is = rw (values-is, array-is) (table-first (fileIn x .table) (file .table))
+  abbrev placed : List Record → Left
+  placed l = placedAll (materialFor A (f .n) (tableOf f)) (begunAt f .sheet) first (blocksOf (begunAt f .sheet)) l
 
-    -- the answer
-    pub back-is : backOf b ≡ fileBack x
-    back-is = ap backOf told ∙ go x
-      where
-        go : (x : Lined File) → backOf (linesBack x) ≡ fileBack x
-        go (refusedAt n k) = refl
-        go (read F u) = refl
+  -- as much is copied as the answered sheet has
+  pub back-few :
+      (t : LinesRead) {r : FileBack} → r ≡ backBy f t → (r .sheet .width * r .sheet .height ≤ mostSamples) × (r .sheet .placed ≤ mostBlocks)
+  back-few (linesRead.Refused n k) e = rw e (omega arith, omega arith)
+  back-few (linesRead.Done c) e = rw e (area-few, blocks-fit)
 
-    module _
-        (old : Slices) {k e : List ℕ} {a o : List ℤ} (left : _≡_ {A = Slices} (k, (e, (a, o))) (leaving x (λ F. recordsBack F old) old))
-        (room : 1024 ≤ recordsLent (length (old .0)) (length (old .1 .0)) (length (old .1 .1 .0)) (length (old .1 .1 .1)))
-      where
-        stored : _≡_ {A = Slices} (k, (e, (a, o))) (putRecords old (fileIn x .records))
-        stored = left ∙ go x
-          where
-            go : (x : Lined File) → leaving x (λ F. recordsBack F old) old ≡ putRecords old (fileIn x .records)
-            go (refusedAt n k) = refl
-            go (read F u) = refl
+  module _ (drawn : List ℕ) (kept : List (List ℤ)) (before : Lent) where
+    abbrev Copied : List ℕ → List (List ℤ) → FileBack → Type 0
+    Copied samples records b =
+        (samples ≡ take (b .sheet .width * b .sheet .height) drawn ++ drop (b .sheet .width * b .sheet .height) (before .samples))
+        × (records ≡ take (b .sheet .placed) kept ++ drop (b .sheet .placed) (before .records))
 
-        -- there is room for every record
-        pub blocks-room : blocksIn (linesSize b) ≤ recordsLent (length k) (length e) (length a) (length o)
-        blocks-room = rw (lent-same (fileIn x .records) old stored) (le-trans blocks-fit room)
+    module _ {samples : List ℕ} {records : List (List ℤ)} {r : FileBack} where
+      sheet-of :
+          (c : Cursor) (l : List Record) (u : List ℕ) → blockLines A (begunAt f) s ≡ read l u
+          → _≡_ {A = Left} (take (areaOf f) drawn, kept) (placed l) → r ≡ backBy f (linesRead.Done c) → Copied samples records (backBy f (linesRead.Done c))
+          → Leaves A (sheetLines A f s) before r (lentOf samples records)
+      unfolding samplesBack
+      sheet-of c l u is left e es =
+          let S = begunAt f .sheet in
+          let M = materialFor A (f .n) (tableOf f) in
+          let F = fileOf (f .n) (f .width) (f .height) (tableOf f) l in
+          let whole : length l ≡ blocksOf S = file-wrote A F s u (file-is ∙ rw is) .sound .whole in
+          let long : length (tableOf f) ≡ f .values = ap length table-is ∙ front .count in
+          let array : sets (replicate mostValues 0) 0 (tableOf f) ≡ f .table =
+          ap (sets (replicate mostValues 0) 0) table-is ∙ sym (front .held) in
+          let stored : take (blocksOf S) kept ≡ map fieldsOf l =
+          ap (λ (x : Left). take (blocksOf S) (x .1)) left ∙ take-at (map fieldsOf l) _ (blocksOf S) (length-map l fieldsOf ∙ whole) in
+          let painted : take (areaOf f) drawn ≡ placedInTurn S M (inTurn l) (zeros (areaOf f)) (blocksOf S) =
+          ap (λ (x : Left). x .0) left
+          ∙ ap (λ (x : List ℕ). placedInTurn S M (inTurn l) x (blocksOf S)) (take-zeros (areaOf f) mostSamples area-few) in
+          rw is
+          (record {
+            answered = e ∙ rw (long, array);
+            kept = es .1 ∙ rw (stored, whole);
+            drawn = es .0 ∙ ap (λ (x : List ℕ). x ++ drop (areaOf f) (before .samples)) painted;
+          })
 
-        -- the record at each place
-        record-is : (i : ℕ) → i < blocksIn (linesSize b) → meant (recordAt k e a o i) ≡ recordIn (fileIn x) i
-        record-is i l =
-            ap meant
-            (record-back (fileIn x .records) old stored (le-trans (rw (file .whole) (file .blocks)) room) i (rw (file .whole) (rw size-is at l)))
+      pub sheet-left :
+          (t : LinesRead) → ReadsAll A (tableOf f) (begunAt f) s first (take (areaOf f) drawn, kept) t → r ≡ backBy f t → Copied samples records r
+          → Leaves A (sheetLines A f s) before r (lentOf samples records)
+      sheet-left (linesRead.Refused n k) q e es =
+          let h = subst (Copied samples records) e es in
+          rw (h .0, h .1) (all-refused A before (rw (only-refused (blockLines A (begunAt f) s) (q .told))) e)
+      sheet-left (linesRead.Done c) q e es =
+          let o = only-read (blockLines A (begunAt f) s) (drop (c .at) s) (q .told) in
+          sheet-of c (o .value) (drop (c .at) s) (o .is)
+          (subst (λ (x : Lined (List Record)). PutIf placed x (take (areaOf f) drawn, kept)) (o .is) (q .left)) e (subst (Copied samples records) e es)
 
-        -- each is accepted for its block
-        pub accepted :
-            (i : ℕ) → i < blocksIn (linesSize b)
-            → placeRefusal (after i (sheetOf b)) (b .width * b .height) (materialOf (A .list (b .n)) (A .count (b .n)) (tableOf b) (A .texture)) (meant (recordAt k e a o i)) ≡ 0
-        accepted i l = rw (table-is, record-is i l, n-is, width-is, height-is) (file .each i (rw size-is at l))
+-- the first k samples of a slice were lent on, and the rest follows them
+pub rest-as :
+    (A : Aids) (table : List ℕ) (r : Reading) (s old : List ℕ) (k : ℕ) {new : List ℕ} {kept₀ kept : List (List ℤ)} {t : LinesRead}
+    → k ≤ length old → length (new ++ drop k old) ≡ length old → ReadsAll A table r s (take k old, kept₀) (new, kept) t
+    → ReadsAll A table r s (take k old, kept₀) (take k (new ++ drop k old), kept) t
+rest-as A table r s old k {new} h e q =
+    let l : length new ≡ k = omega (arith, length-append new (drop k old), length-drop k old) in
+    rw (take-at new (drop k old) k l) q
 
-        -- the samples afterwards
-        pub drawn :
-            (t : List ℕ) → 16384 ≤ length t → {new : List ℕ}
-            → new ≡ placedInTurn (sheetOf b) (materialOf (A .list (b .n)) (A .count (b .n)) (tableOf b) (A .texture)) (λ i. meant (recordAt k e a o i)) (take (b .width * b .height) t) (blocksIn (linesSize b)) ++ drop (b .width * b .height) t
-            → new ≡ leaving x (λ F. samplesBack A F t) t
-        drawn t enough {new} q =
-            q
-            ∙ ap (λ (l : List ℕ). l ++ drop (b .width * b .height) t)
-            (in-turn-ext (sheetOf b) (materialOf (A .list (b .n)) (A .count (b .n)) (tableOf b) (A .texture)) (λ i. meant (recordAt k e a o i)) (recordIn (fileIn x)) (take (b .width * b .height) t) (blocksIn (linesSize b)) record-is)
-            ∙ rw (table-is, n-is, width-is, height-is)
-            (ap (λ (l : List ℕ). l ++ drop (fileIn x .width * fileIn x .height) t) (file .same t (le-trans area-few enough)) ∙ samples-are A x t)
+-- ---- the list for the size in the file stands for all three
+
+lent-as :
+    (A B : Aids) (f : Front) (old : List ℕ) {new : List ℕ} → materialFor A (f .n) (tableOf f) ≡ materialFor B (f .n) (tableOf f)
+    → (x : Lined (List Record)) → new ≡ leaving (withFront f x) (λ F. samplesBack B F old) old
+    → new ≡ leaving (withFront f x) (λ F. samplesBack A F old) old
+unfolding samplesBack
+lent-as A B f old e (refusedAt n k) h = h
+lent-as A B f old e (read l v) h = rw e h
+
+pub read-as :
+    (words4 words8 words16 : List ℕ) (count4 count8 count16 : ℕ) (texture s : List ℕ) (f : Front)
+    {words : List ℕ} {count : ℕ} {before after : Lent} {r : FileBack} {x : Lined File}
+    → let A = aidsOf words4 count4 words8 count8 words16 count16 texture in
+    let B = oneList words count texture in
+    words ≡ forSize (f .n) words4 words8 words16 → count ≡ forSize (f .n) count4 count8 count16 → x ≡ sheetLines A f s
+    → Leaves B (sheetLines B f s) before r after → Leaves A x before r after
+read-as words4 words8 words16 count4 count8 count16 texture s f {before = before} e g q h =
+    let A = aidsOf words4 count4 words8 count8 words16 count16 texture in
+    let B = oneList (forSize (f .n) words4 words8 words16) (forSize (f .n) count4 count8 count16) texture in
+    let l = rw (e, g) at h in
+    rw q
+    (record {
+      answered = l .answered;
+      kept = l .kept;
+      drawn = lent-as A B f (before .samples) refl (blockLines B (begunAt f) s) (l .drawn);
+    })

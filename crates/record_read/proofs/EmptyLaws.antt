@@ -1,4 +1,4 @@
--- Records placed in turn on an empty sheet: what stood there before makes no difference. Assumes nothing.
+-- Records placed in turn on an empty sheet: what stood there before makes no difference.
 use Prim.Native.Nat.{ℕ, _*_, _/_}
 use mathlib.Core.Path.{_≡_, subst}
 use mathlib.Core.Bool.{true}
@@ -9,13 +9,13 @@ use lib.ListN.{length, replicate, length-replicate}
 use Rattle.arith.proofs.Bools.{both-of}
 use Rattle.pattern.specs.Size.{sizeOk}
 use Rattle.pattern.proofs.SizeLaws.{size-bounds}
-use Rattle.choice.specs.Record.{Record}
+use Rattle.record.specs.declared.Record.{Record}
 use Rattle.sheet.specs.declared.Sheet.{Sheet}
-use Rattle.sheet_blocks.specs.Grid.{sideOk}
-use Rattle.sheet_blocks.proofs.GridLaws.{per-pos}
+use Rattle.sheet_grid.specs.Grid.{sideOk}
+use Rattle.sheet_grid.proofs.GridLaws.{per-pos}
 use Rattle.sheet.specs.State.{stateOf, area, blocksOf, sidesOk, Open}
 use Rattle.sheet.specs.Place.{Material, placedInTurn}
-use Rattle.sheet_checks.proofs.SideLaws.{side-bounds}
+use Rattle.sheet.proofs.SideLaws.{side-bounds}
 use Rattle.sheet.proofs.InTurnLaws.{whole-same}
 use Rattle.record_read.specs.Back.{drawnOn}
 

@@ -1,32 +1,34 @@
 // Reading a record file.
 ghost use mathlib.Core.Path.{_≡_};
-ghost use mathlib.Core.List.{_++_};
-ghost use Prim.Native.Nat.{ℕ, _*_, _<_, _≤_};
-ghost use lib.ListN.{length, take, drop};
+ghost use Prim.Native.Nat.{ℕ, _≤_};
+ghost use lib.ListN.{length, take};
 ghost use mathlib.Core.Bool.{Bool};
 ghost use Rattle.pattern.specs.Answer.{countOk};
 ghost use Rattle.pattern.specs.Size.{eachSize, forSize};
-ghost use Rattle.pattern.specs.Words.{wholePatterns, patternsOf};
+ghost use Rattle.pattern.specs.Words.{wholePatterns};
+ghost use Rattle.sheet_grid.specs.Grid.{mostSamples, mostBlocks};
+ghost use Rattle.sheet.specs.State.{blocksOf};
 ghost use Rattle.record_text.specs.Lines.{refusedAt};
-ghost use Rattle.sheet_checks.specs.Checks.{recordsLent};
-ghost use Rattle.sheet.specs.State.{after};
-ghost use Rattle.sheet.specs.Place.{materialOf, placedSamples, placeRefusal, placedInTurn};
-ghost use Rattle.record_file.specs.Text.{meant, recordAt};
-ghost use Rattle.record_file.specs.Reading.{aidsOf, readFile, blocksIn, readLengthsOk};
-ghost use Rattle.record_lines.specs.Stored.{Slices};
-ghost use Rattle.record_lines.specs.Back.{linesSize, recordsBack, leaving};
-ghost use Rattle.record_read.specs.Back.{fileBack, samplesBack, sheetOf, tableOf, backOf};
+ghost use Rattle.record_file.specs.Reading.{aidsOf, readLengthsOk};
+ghost use Rattle.record_read.specs.Back.{fileBack, lentOf, Leaves, Reads};
+ghost use Rattle.record_read.specs.Step.{oneList, FrontRead, Counted, begunAt, tableOf, areaOf};
+ghost use Rattle.record_read.specs.Step.{sheetLines, backBy, Left, ReadsAll};
+use crate::blocks::Reading;
+use crate::blocks::read_blocks;
+use crate::copy::copy_records;
+use crate::copy::copy_samples;
+use crate::front::Front;
+use crate::front::read_front;
+use crate::loops::LinesRead;
+use depth_table::VALUES;
+use pattern::GREATEST_SIZE;
 use pattern::count_ok;
 use pattern::whole_patterns;
 use record_file::count_for;
 use record_file::list_for;
-use record_file::record_at;
-use record_lines::LinesBack;
-use record_lines::read_lines;
-use record_text::RecordFields;
-use sheet::Placed;
+use sheet::MOST_BLOCKS;
+use sheet::MOST_SAMPLES;
 use sheet::Sheet;
-use sheet_checks::records_lent;
 
 // Whether each list's count is one that its whole patterns allow.
 fn lists_ok(
@@ -47,77 +49,20 @@ fn lists_ok(
     if !count_ok(whole_patterns(8, words8), count8) {
         return false;
     }
-    count_ok(whole_patterns(16, words16), count16)
+    count_ok(whole_patterns(GREATEST_SIZE, words16), count16)
 }
 
 // Whether what is lent to reading is long enough.
 fn read_lengths_ok(samples: usize, records: usize, lists: bool) -> bool
     ensures { λ r. ⌜ r ≡ readLengthsOk samples records lists ⌝ }
 {
-    if samples < 16384 {
+    if samples < MOST_SAMPLES {
         return false;
     }
-    if records < 1024 {
+    if records < MOST_BLOCKS {
         return false;
     }
     lists
-}
-
-// Places a record that is not refused, and hands the next state back.
-fn place_one(
-    state: Sheet,
-    samples: &mut [u8],
-    list: &[u64],
-    count: usize,
-    table: &[u8],
-    texture: &[u8],
-    r: RecordFields,
-) -> Sheet
-    requires { ⌜ placeRefusal state (length (now samples)) (materialOf (patternsOf (state .n) (now list)) count (now table) (now texture)) (meant r) ≡ 0 ⌝ }
-    ensures next { λ t. ⌜ t ≡ after 1 state ⌝ }
-    ensures left { λ t. ⌜ now (samples .exit) ≡ placedSamples state (materialOf (patternsOf (state .n) (now (list .entry))) count (now (table .entry)) (now (texture .entry))) (now (samples .entry)) (meant r) ⌝ }
-{
-    let off0 = r.off0;
-    let off1 = r.off1;
-    match state.place(
-        samples,
-        list,
-        count,
-        table,
-        texture,
-        r.kind,
-        r.entry,
-        off0,
-        off1,
-    ) {
-        Placed::Next(next) => next,
-        Placed::Refused(_) => state,
-    }
-}
-
-// Places the first m records in turn; none of them is refused.
-fn place_all(
-    sheet: Sheet,
-    samples: &mut [u8],
-    list: &[u64],
-    count: usize,
-    table: &[u8],
-    texture: &[u8],
-    m: usize,
-    kinds: &[u32],
-    entries: &[u32],
-    offs0: &[i32],
-    offs1: &[i32],
-)
-    requires { ⌜ m ≤ recordsLent (length (now kinds)) (length (now entries)) (length (now offs0)) (length (now offs1)) ⌝ }
-    requires { ⌜ ((i : ℕ) → i < m → placeRefusal (after i sheet) (length (now samples)) (materialOf (patternsOf (sheet .n) (now list)) count (now table) (now texture)) (meant (recordAt (now kinds) (now entries) (now offs0) (now offs1) i)) ≡ 0) ⌝ }
-    ensures { λ _. ⌜ now (samples .exit) ≡ placedInTurn sheet (materialOf (patternsOf (sheet .n) (now (list .entry))) count (now (table .entry)) (now (texture .entry))) (λ i. meant (recordAt (now (kinds .entry)) (now (entries .entry)) (now (offs0 .entry)) (now (offs1 .entry)) i)) (now (samples .entry)) m ⌝ }
-{
-    let mut state = sheet;
-    for i in 0..m {
-        let r = record_at(kinds, entries, offs0, offs1, i);
-        state = place_one(state, samples, list, count, table, texture, r);
-    }
 }
 
 // What `read` answers: the number of a refusal (0 for none) and its line; where there is none, the finished state, the table and its count.
@@ -126,10 +71,10 @@ pub struct FileBack {
     pub line: u32,
     pub sheet: Sheet,
     pub values: u32,
-    pub table: [u8; 256],
+    pub table: [u8; VALUES],
 }
 
-// The answer where the lengths are refused.
+// The answer where a line is refused.
 fn refused_at(refusal: u8, line: u32) -> FileBack
     ensures { λ r. ⌜ r ≡ fileBack (refusedAt refusal line) ⌝ }
 {
@@ -143,75 +88,108 @@ fn refused_at(refusal: u8, line: u32) -> FileBack
             placed: 0,
         },
         values: 0,
-        table: [0u8; 256],
+        table: [0u8; VALUES],
     }
 }
 
-// Places a file's records in turn on the first samples; where its lines are refused it has no blocks, and nothing is placed.
-fn fill(
-    lines: LinesBack,
-    samples: &mut [u8],
+// The answer after the records were read.
+fn told_back(rest: LinesRead, front: Front) -> FileBack
+    requires { ⌜ blocksOf (begunAt front .sheet) ≤ mostBlocks ⌝ }
+    ensures { λ r. ⌜ r ≡ backBy front rest ⌝ }
+{
+    let table = front.table;
+    let sheet = Sheet {
+        n: front.n,
+        width: front.width,
+        height: front.height,
+        placed: 0,
+    };
+    match rest {
+        LinesRead::Refused(number, line) => refused_at(number, line),
+        LinesRead::Done(_) => FileBack {
+            refusal: 0,
+            line: 0,
+            sheet: Sheet {
+                n: front.n,
+                width: front.width,
+                height: front.height,
+                placed: sheet.blocks() as u32,
+            },
+            values: front.values,
+            table,
+        },
+    }
+}
+
+// The records after the lines before them: each is placed on the first samples and stored.
+fn read_rest(
+    bytes: &[u8],
+    front: Front,
     list: &[u64],
     count: usize,
     texture: &[u8],
-    kinds: &[u32],
-    entries: &[u32],
-    offs0: &[i32],
-    offs1: &[i32],
-)
-    requires { ⌜ (lines .values ≤ length (lines .table)) × (lines .width * lines .height ≤ length (now samples)) × (lines .width ≤ 128) × (lines .height ≤ 128) ⌝ }
-    requires { ⌜ blocksIn (linesSize lines) ≤ recordsLent (length (now kinds)) (length (now entries)) (length (now offs0)) (length (now offs1)) ⌝ }
-    requires { ⌜ ((i : ℕ) → i < blocksIn (linesSize lines) → placeRefusal (after i (sheetOf lines)) (lines .width * lines .height) (materialOf (patternsOf (lines .n) (now list)) count (tableOf lines) (now texture)) (meant (recordAt (now kinds) (now entries) (now offs0) (now offs1) i)) ≡ 0) ⌝ }
-    ensures { λ _. ⌜ now (samples .exit) ≡ placedInTurn (sheetOf lines) (materialOf (patternsOf (lines .n) (now (list .entry))) count (tableOf lines) (now (texture .entry))) (λ i. meant (recordAt (now (kinds .entry)) (now (entries .entry)) (now (offs0 .entry)) (now (offs1 .entry)) i)) (take (lines .width * lines .height) (now (samples .entry))) (blocksIn (linesSize lines)) ++ drop (lines .width * lines .height) (now (samples .entry)) ⌝ }
+    samples: &mut [u8],
+    records: &mut [[i32; 4]],
+) -> LinesRead
+    requires { ⌜ (FrontRead (length (now texture)) (now bytes) front) × (Counted (oneList (now list) count (now texture)) (front .n)) ⌝ }
+    requires { ⌜ (mostSamples ≤ length (now samples)) × (mostBlocks ≤ length (now records)) ⌝ }
+    ensures { λ t.
+        let A = oneList (now (list .entry)) count (now (texture .entry)) in
+        let old : Left = (take (areaOf front) (now (samples .entry)), now (records .entry)) in
+        let new : Left = (take (areaOf front) (now (samples .exit)), now (records .exit)) in
+        ⌜ ReadsAll A (tableOf front) (begunAt front) (now (bytes .entry)) old new t ⌝ }
 {
-    let table = lines.table;
-    let area = lines.width as usize * lines.height as usize;
-    let values = lines.values as usize;
-    let sheet = Sheet {
-        n: lines.n,
-        width: lines.width,
-        height: lines.height,
-        placed: 0,
+    let table = front.table;
+    let area = front.width as usize * front.height as usize;
+    let values = front.values as usize;
+    let from = Reading {
+        at: front.at,
+        line: 5 + front.values,
+        sheet: Sheet {
+            n: front.n,
+            width: front.width,
+            height: front.height,
+            placed: 0,
+        },
     };
-    place_all(
-        sheet,
+    read_blocks(
+        bytes,
+        from,
         &mut samples[..area],
         list,
         count,
         &table[..values],
         texture,
-        sheet.blocks() as usize,
-        kinds,
-        entries,
-        offs0,
-        offs1,
-    );
+        records,
+    )
 }
 
-// The answer after the lines were read.
-fn told_back(lines: LinesBack) -> FileBack
-    requires { ⌜ blocksIn (linesSize lines) ≤ 1024 ⌝ }
-    ensures { λ r. ⌜ r ≡ backOf lines ⌝ }
+// The sheet after the lines before its records. It is read into arrays of this function, and as much of it is copied to what is lent as the
+// answered sheet has: nothing where a line is refused.
+fn read_sheet(
+    bytes: &[u8],
+    front: Front,
+    list: &[u64],
+    count: usize,
+    texture: &[u8],
+    samples: &mut [u8],
+    records: &mut [[i32; 4]],
+) -> FileBack
+    requires { ⌜ (FrontRead (length (now texture)) (now bytes) front) × (Counted (oneList (now list) count (now texture)) (front .n)) ⌝ }
+    requires { ⌜ (mostSamples ≤ length (now samples)) × (mostBlocks ≤ length (now records)) ⌝ }
+    ensures { λ r.
+        let A = oneList (now (list .entry)) count (now (texture .entry)) in
+        let before = lentOf (now (samples .entry)) (now (records .entry)) in
+        ⌜ Leaves A (sheetLines A front (now (bytes .entry))) before r (lentOf (now (samples .exit)) (now (records .exit))) ⌝ }
 {
-    let table = lines.table;
-    let sheet = Sheet {
-        n: lines.n,
-        width: lines.width,
-        height: lines.height,
-        placed: 0,
-    };
-    FileBack {
-        refusal: lines.refusal,
-        line: lines.line,
-        sheet: Sheet {
-            n: lines.n,
-            width: lines.width,
-            height: lines.height,
-            placed: sheet.blocks() as u32,
-        },
-        values: lines.values,
-        table,
-    }
+    let mut drawn = [0u8; MOST_SAMPLES];
+    let mut kept = [[0i32; 4]; MOST_BLOCKS];
+    let rest = read_rest(bytes, front, list, count, texture, &mut drawn, &mut kept);
+    let back = told_back(rest, front);
+    let area = back.sheet.width as usize * back.sheet.height as usize;
+    copy_samples(samples, &drawn, area);
+    copy_records(records, &kept, back.sheet.placed as usize);
+    back
 }
 
 // Reads a file with a list for each size: its records, and the samples that placing them in turn on an empty sheet gives, come into the
@@ -226,28 +204,13 @@ pub fn read<'a>(
     count16: usize,
     texture: &[u8],
     samples: &mut [u8],
-    kinds: &mut [u32],
-    entries: &mut [u32],
-    offs0: &mut [i32],
-    offs1: &mut [i32],
+    records: &mut [[i32; 4]],
 ) -> FileBack
-    ensures answered { λ r.
+    ensures { λ r.
         let A = aidsOf (now (list4 .entry)) count4 (now (list8 .entry)) count8 (now (list16 .entry)) count16 (now (texture .entry)) in
-        let records = recordsLent (length (now (kinds .entry))) (length (now (entries .entry))) (length (now (offs0 .entry))) (length (now (offs1 .entry))) in
-        ⌜ r ≡ fileBack (readFile A (length (now (samples .entry))) records (now (bytes .entry))) ⌝ }
-    ensures kept { λ r.
-        let A = aidsOf (now (list4 .entry)) count4 (now (list8 .entry)) count8 (now (list16 .entry)) count16 (now (texture .entry)) in
-        let records = recordsLent (length (now (kinds .entry))) (length (now (entries .entry))) (length (now (offs0 .entry))) (length (now (offs1 .entry))) in
-        let old : Slices = (now (kinds .entry), (now (entries .entry), (now (offs0 .entry), now (offs1 .entry)))) in
-        ⌜ _≡_ {A = Slices} (now (kinds .exit), (now (entries .exit), (now (offs0 .exit), now (offs1 .exit))))
-        (leaving (readFile A (length (now (samples .entry))) records (now (bytes .entry))) (λ F. recordsBack F old) old) ⌝ }
-    ensures drawn { λ r.
-        let A = aidsOf (now (list4 .entry)) count4 (now (list8 .entry)) count8 (now (list16 .entry)) count16 (now (texture .entry)) in
-        let records = recordsLent (length (now (kinds .entry))) (length (now (entries .entry))) (length (now (offs0 .entry))) (length (now (offs1 .entry))) in
-        let old = now (samples .entry) in
-        ⌜ now (samples .exit) ≡ leaving (readFile A (length old) records (now (bytes .entry))) (λ F. samplesBack A F old) old ⌝ }
+        let before = lentOf (now (samples .entry)) (now (records .entry)) in
+        ⌜ Reads A before (now (bytes .entry)) r (lentOf (now (samples .exit)) (now (records .exit))) ⌝ }
 {
-    let records = records_lent(kinds.len(), entries.len(), offs0.len(), offs1.len());
     let lists = lists_ok(
         list4.len(),
         count4,
@@ -256,34 +219,15 @@ pub fn read<'a>(
         list16.len(),
         count16,
     );
-    if !read_lengths_ok(samples.len(), records, lists) {
+    if !read_lengths_ok(samples.len(), records.len(), lists) {
         return refused_at(2, 0);
     }
-    let lines = read_lines(
-        bytes,
-        list4,
-        count4,
-        list8,
-        count8,
-        list16,
-        count16,
-        texture,
-        kinds,
-        entries,
-        offs0,
-        offs1,
-    );
-    let n = lines.n as usize;
-    fill(
-        lines,
-        samples,
-        list_for(n, list4, list8, list16),
-        count_for(n, count4, count8, count16),
-        texture,
-        kinds,
-        entries,
-        offs0,
-        offs1,
-    );
-    told_back(lines)
+    let front = read_front(bytes, texture.len());
+    if front.refusal != 0 {
+        return refused_at(front.refusal, front.line);
+    }
+    let n = front.n as usize;
+    let list = list_for(n, list4, list8, list16);
+    let count = count_for(n, count4, count8, count16);
+    read_sheet(bytes, front, list, count, texture, samples, records)
 }

@@ -1,5 +1,11 @@
 -- Laws of the definitions of `record_text`.
+pub mod ParsedLaws
+pub mod NumeralLaws
+pub mod FieldLaws
+pub mod SignLaws
+pub mod ReadSteps
 pub mod LineLaws
+pub mod LineSteps
 pub mod LengthLaws
 pub mod TextSteps
 pub mod LinesLaws

@@ -1,4 +1,4 @@
--- Both inverse laws of several lines, one step of reading them, and how long their text is. Assumes nothing.
+-- Both inverse laws of several lines, one step of reading them, and how long their text is.
 use Prim.Native.Nat.{ℕ, zero, suc, _+_, _*_, _≤_, _<_}
 use mathlib.Core.Path.{_≡_, refl, _∙_, ap, subst}
 use mathlib.Core.List.{List, [], _∷_, _++_, append-assoc, append-nil}
@@ -6,8 +6,8 @@ use native.Mathlib.Omega.{arith}
 use native.Mathlib.Nat.{mul-suc}
 use lib.ListN.{length, length-append}
 use Rattle.arith.specs.Lists.{listOf}
-use Rattle.record_field.specs.Parsed.{Parsed, Parser, badForm, found}
-use Rattle.record_field.specs.Codec.{Codec}
+use Rattle.record_text.specs.Parsed.{Parsed, Parser, badForm, found}
+use Rattle.record_text.specs.Codec.{Codec}
 use Rattle.record_text.specs.Lines.{Lined, refusedAt, read, judged, line, linesThen, manyLines, ended, texts, Each}
 
 -- ---- a refusal is no value

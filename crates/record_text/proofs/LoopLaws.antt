@@ -1,11 +1,11 @@
--- A loop that reads lines: what it has read so far. Assumes nothing.
+-- A loop that reads lines: what it has read so far.
 use Prim.Native.Nat.{ℕ, suc, _+_, _-_, _≤_, _<_}
 use mathlib.Core.Path.{_≡_, refl, sym, _∙_, ap}
 use mathlib.Core.List.{List, [], _∷_, _++_, append-nil}
 use native.Mathlib.Nat.{add-zero, sub-zero}
 use native.Mathlib.Omega.{arith}
 use lib.Seq.{append-snoc}
-use Rattle.record_field.specs.Parsed.{Parser, badForm, found}
+use Rattle.record_text.specs.Parsed.{Parser, badForm, found}
 use Rattle.record_text.specs.Lines.{Lined, refusedAt, read, linesThen, manyLines}
 use Rattle.record_text.proofs.LinesLaws.{many-none, many-bad, many-refused, many-more}
 

@@ -1,11 +1,11 @@
--- The steps of reading a given text as the code takes them, at a place p of the bytes s. Assumes nothing.
+-- The steps of reading a given text as the code takes them, at a place p of the bytes s.
 use Prim.Native.Nat.{ℕ, _+_, _≤_, _<_}
 use mathlib.Core.Path.{_≡_}
 use mathlib.Core.List.{List}
 use lib.ListN.{length, getD, drop}
 use borrow.Author.Tests.{eq-eqb, ne-eqb}
-use Rattle.record_field.specs.Parsed.{badForm, found, exactly}
-use Rattle.record_field.proofs.ReadSteps.{at-place, past}
+use Rattle.record_text.specs.Parsed.{badForm, found, exactly}
+use Rattle.record_text.proofs.ReadSteps.{at-place, past}
 
 -- i bytes of the text w are passed, and p is reached
 

@@ -1,4 +1,9 @@
--- The definitions that the contracts of `record_text` cite beside those of `record_field`.
+-- The definitions that the contracts of `record_text` cite.
+pub mod Bytes
+pub mod Numeral
+pub mod Parsed
+pub mod Field
+pub mod Codec
 pub mod Line
 pub mod Printable
 pub mod Told

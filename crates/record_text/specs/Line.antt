@@ -1,62 +1,113 @@
--- The lines of the record file, read and printed. Assumes nothing.
+-- The lines of the record file, read and printed.
 use Prim.Native.Nat.{ℕ}
 use mathlib.Core.List.{List, [], _∷_, _++_}
-use lib.IntN.{ℤ}
+use mathlib.Core.Bool.{Bool, true, false, cond}
+use lib.IntN.{ℤ, pos, natAbs}
+use lib.ListN.{getD}
 use Rattle.record_text.specs.declared.fields.SizeFields.{SizeFields}
-use Rattle.record_text.specs.declared.fields.RecordFields.{RecordFields}
-use Rattle.record_field.specs.Parsed.{Parser, _then_, mapped}
-use Rattle.record_field.specs.Field.{number, signed, numberText, signedText}
+use Rattle.record.specs.declared.Record.{Record}
+use Rattle.record_text.specs.Bytes.{bytesOf}
+use Rattle.record_text.specs.Parsed.{Parser, found, more, mapped}
+use Rattle.record_text.specs.Field.{number, signed, numberText, signedText}
 
--- the line `size width height values`
+-- ---- the lines of titles
+
+-- over the size
 unfoldable pub sizeTitle : List ℕ
-sizeTitle =
-    115 ∷ 105 ∷ 122 ∷ 101 ∷ 32 ∷ 119 ∷ 105 ∷ 100 ∷ 116 ∷ 104 ∷ 32 ∷ 104 ∷ 101 ∷ 105 ∷ 103 ∷ 104 ∷ 116 ∷ 32 ∷ 118 ∷ 97 ∷ 108 ∷ 117 ∷ 101 ∷ 115 ∷ 10 ∷ []
+sizeTitle = bytesOf "size width height values\n"
 
--- the line `depth`
+-- over the table values
 unfoldable pub depthTitle : List ℕ
-depthTitle = 100 ∷ 101 ∷ 112 ∷ 116 ∷ 104 ∷ 10 ∷ []
+depthTitle = bytesOf "depth\n"
 
--- the line `kind entry off0 off1`
+-- over the records
 unfoldable pub recordTitle : List ℕ
-recordTitle =
-    107 ∷ 105 ∷ 110 ∷ 100 ∷ 32 ∷ 101 ∷ 110 ∷ 116 ∷ 114 ∷ 121 ∷ 32 ∷ 111 ∷ 102 ∷ 102 ∷ 48 ∷ 32 ∷ 111 ∷ 102 ∷ 102 ∷ 49 ∷ 10 ∷ []
+recordTitle = bytesOf "kind entry off0 off1\n"
 
--- the line of the size: n, width, height and the table count
-abbrev pub sizeFields : Parser (ℕ × (ℕ × (ℕ × ℕ)))
-sizeFields = number 32 then number 32 then number 32 then number 10
+-- ---- a line of fields, its form a list that says of each whether a minus may stand in it
 
--- its fields by name
-abbrev pub sizeNamed : ℕ × (ℕ × (ℕ × ℕ)) → SizeFields
-sizeNamed f = record { n = f .0; width = f .1 .0; height = f .1 .1 .0; values = f .1 .1 .1 }
+-- the byte after a field: 10 after the last of a line, else a space
+abbrev pub endByte : Bool → ℕ
+endByte last = cond last 10 32
+
+-- the same, by the fields that follow
+abbrev pub endOf : {A : Type 0} → List A → ℕ
+endOf [] = endByte true
+endOf (a ∷ others) = endByte false
+
+-- the line read
+abbrev pub lineOf : List Bool → Parser (List ℤ)
+lineOf [] s = found [] s
+lineOf (minus ∷ form) s = more (signed minus (endOf form)) (lineOf form) s
+
+-- the line printed
+abbrev pub lineText : List ℤ → List ℕ
+lineText [] = []
+lineText (z ∷ others) = signedText (endOf others) z ++ lineText others
+
+-- number k of a line
+abbrev pub numberAt : List ℤ → ℕ → ℤ
+numberAt l k = getD l k (pos 0)
+
+-- a line of four fields, with `minus` for the last two
+abbrev pub fourForm : Bool → List Bool
+fourForm minus = false ∷ false ∷ minus ∷ minus ∷ []
+
+-- ---- the line of the size: n, width, height and the table count
+
+-- no field has a minus
+abbrev pub sizeForm : List Bool
+sizeForm = fourForm false
+
+-- its numbers by name
+abbrev pub sizeNamed : List ℤ → SizeFields
+sizeNamed l = record {
+  n = natAbs (numberAt l 0);
+  width = natAbs (numberAt l 1);
+  height = natAbs (numberAt l 2);
+  values = natAbs (numberAt l 3);
+}
+
+-- and in their order
+abbrev pub sizeNumbers : SizeFields → List ℤ
+sizeNumbers h = pos (h .n) ∷ pos (h .width) ∷ pos (h .height) ∷ pos (h .values) ∷ []
 
 -- the line read
 unfoldable pub sizeLine : Parser SizeFields
-sizeLine = mapped sizeNamed sizeFields
+sizeLine = mapped sizeNamed (lineOf sizeForm)
 
 -- the line printed
 unfoldable pub sizeText : SizeFields → List ℕ
-sizeText h = numberText 32 (h .n) ++ (numberText 32 (h .width) ++ (numberText 32 (h .height) ++ numberText 10 (h .values)))
+sizeText h = lineText (sizeNumbers h)
 
--- the line of a table value, read
+-- ---- the line of a table value
+
+-- the line read
 unfoldable pub valueLine : Parser ℕ
 valueLine = number 10
 
--- and printed
+-- the line printed
 unfoldable pub valueText : ℕ → List ℕ
 valueText v = numberText 10 v
 
--- the line of a record: kind, entry and the two offsets
-abbrev pub recordFields : Parser (ℕ × (ℕ × (ℤ × ℤ)))
-recordFields = number 32 then number 32 then signed 32 then signed 10
+-- ---- the line of a record: kind, entry and the two offsets, in which a minus may stand
 
--- its fields by name
-abbrev pub recordNamed : ℕ × (ℕ × (ℤ × ℤ)) → RecordFields
-recordNamed f = record { kind = f .0; entry = f .1 .0; off0 = f .1 .1 .0; off1 = f .1 .1 .1 }
+-- the last two may have one
+abbrev pub recordForm : List Bool
+recordForm = fourForm true
+
+-- its numbers by name
+abbrev pub recordNamed : List ℤ → Record
+recordNamed l = record { kind = natAbs (numberAt l 0); entry = natAbs (numberAt l 1); off0 = numberAt l 2; off1 = numberAt l 3 }
+
+-- and in their order
+abbrev pub recordNumbers : Record → List ℤ
+recordNumbers r = pos (r .kind) ∷ pos (r .entry) ∷ r .off0 ∷ r .off1 ∷ []
 
 -- the line read
-unfoldable pub recordLine : Parser RecordFields
-recordLine = mapped recordNamed recordFields
+unfoldable pub recordLine : Parser Record
+recordLine = mapped recordNamed (lineOf recordForm)
 
 -- the line printed
-unfoldable pub recordText : RecordFields → List ℕ
-recordText r = numberText 32 (r .kind) ++ (numberText 32 (r .entry) ++ (signedText 32 (r .off0) ++ signedText 10 (r .off1)))
+unfoldable pub recordText : Record → List ℕ
+recordText r = lineText (recordNumbers r)

@@ -1,7 +1,7 @@
--- Reading lines in turn, each by its form and then by its meaning, and the text of several lines. Assumes nothing.
+-- Reading lines in turn, each by its form and then by its meaning, and the text of several lines.
 use Prim.Native.Nat.{ℕ, zero, suc}
 use mathlib.Core.List.{List, [], _∷_, _++_}
-use Rattle.record_field.specs.Parsed.{Parsed, Parser, badForm, found}
+use Rattle.record_text.specs.Parsed.{Parsed, Parser, badForm, found}
 
 -- what reading lines finds: the number of a refusal and its line, or a value and the bytes that remain
 pub data Lined (A : Type 0) : Type 0 where

@@ -1,18 +1,23 @@
--- The lines that can be printed. Assumes nothing.
+-- The lines that can be printed.
+use mathlib.Core.Bool.{Bool}
+use mathlib.Core.List.{List, [], _∷_}
+use lib.IntN.{ℤ}
 use Rattle.record_text.specs.declared.fields.SizeFields.{SizeFields}
-use Rattle.record_text.specs.declared.fields.RecordFields.{RecordFields}
-use Rattle.record_field.specs.Codec.{NumberPrintable, SignedPrintable}
+use Rattle.record.specs.declared.Record.{Record}
+use Rattle.record_text.specs.Codec.{FieldPrintable}
+use Rattle.record_text.specs.Line.{sizeForm, sizeNumbers, recordForm, recordNumbers}
 
--- each number of a size line has one
-pub record SizePrintable (h : SizeFields) : Type 0 where
-  pub n : NumberPrintable (h .n)
-  pub width : NumberPrintable (h .width)
-  pub height : NumberPrintable (h .height)
-  pub values : NumberPrintable (h .values)
+-- each field of a line has a number that can be printed
+abbrev pub LinePrintable : List Bool → List ℤ → Type 0
+LinePrintable [] [] = Unit {0}
+LinePrintable [] (z ∷ l) = ⊥
+LinePrintable (minus ∷ form) [] = ⊥
+LinePrintable (minus ∷ form) (z ∷ l) = FieldPrintable minus z × LinePrintable form l
 
--- each number of a record line has one
-pub record RecordPrintable (r : RecordFields) : Type 0 where
-  pub kind : NumberPrintable (r .kind)
-  pub entry : NumberPrintable (r .entry)
-  pub off0 : SignedPrintable (r .off0)
-  pub off1 : SignedPrintable (r .off1)
+-- a size line
+abbrev pub SizePrintable : SizeFields → Type 0
+SizePrintable h = LinePrintable sizeForm (sizeNumbers h)
+
+-- a record line
+abbrev pub RecordPrintable : Record → Type 0
+RecordPrintable r = LinePrintable recordForm (recordNumbers r)

@@ -7,11 +7,3 @@ pub struct SizeFields {
     pub height: u32,
     pub values: u32,
 }
-
-// The numbers of a line under `kind entry off0 off1`.
-pub struct RecordFields {
-    pub kind: u32,
-    pub entry: u32,
-    pub off0: i32,
-    pub off1: i32,
-}

@@ -1,12 +1,17 @@
-// The lines of the record file (document 01: house file), and reading them.
+// The record file's fields and lines (document 01: house file), and reading them.
+mod cursor;
+mod field;
 mod fields;
 mod line;
+mod sign;
 
-pub use fields::RecordFields;
+pub use cursor::Cursor;
+pub use field::NumberRead;
 pub use fields::SizeFields;
 pub use line::RecordRead;
 pub use line::SizeRead;
 pub use line::TextRead;
+pub use line::end_byte;
 pub use line::read_depth_title;
 pub use line::read_record_line;
 pub use line::read_record_title;

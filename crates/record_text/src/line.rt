@@ -1,16 +1,18 @@
 // Reading one line of the record file.
 ghost use mathlib.Core.Path.{_≡_};
-ghost use Rattle.record_field.specs.Parsed.{exactly};
+ghost use lib.ListN.{length};
+ghost use Rattle.record_text.specs.Parsed.{mapped, exactly};
 ghost use Rattle.record_text.specs.Line.{sizeTitle, depthTitle, recordTitle, sizeLine, valueLine, recordLine};
-ghost use Rattle.record_field.specs.Told.{remaining, numberTold};
-ghost use Rattle.record_text.specs.Told.{textTold, sizeTold, recordTold};
-use crate::fields::RecordFields;
+ghost use Rattle.record_text.specs.Line.{endByte, lineOf, fourForm, recordNamed};
+ghost use Rattle.record_text.specs.Told.{remaining, numberTold, textTold, lineTold, sizeTold, recordTold};
+use crate::cursor::Cursor;
+use crate::field::NumberRead;
+use crate::field::SignedRead;
+use crate::field::read_number;
+use crate::field::read_signed;
 use crate::fields::SizeFields;
-use record_field::Cursor;
-use record_field::NumberRead;
-use record_field::SignedRead;
-use record_field::read_number;
-use record_field::read_signed;
+use crate::sign::unsigned;
+use record::Record;
 
 // The place after a given text, or other text.
 pub enum TextRead {
@@ -26,7 +28,7 @@ pub enum SizeRead {
 
 // A record line's numbers and the place after it, or a line of another form.
 pub enum RecordRead {
-    Value(RecordFields, Cursor),
+    Value(Record, Cursor),
     Bad,
 }
 
@@ -75,32 +77,70 @@ pub fn read_value_line(bytes: &[u8], from: Cursor) -> NumberRead
     read_number(bytes, from, 10)
 }
 
+// The byte after a field: the line's end after the last of a line, else a space.
+pub fn end_byte(last: bool) -> u8
+    ensures { λ r. ⌜ r ≡ endByte last ⌝ }
+{
+    if last { 10 } else { 32 }
+}
+
+// The numbers of a line of fields to `numbers`; `form` says of each field whether a minus may stand in it.
+fn read_line(bytes: &[u8], from: Cursor, form: &[bool], numbers: &mut [i32]) -> TextRead
+    requires { ⌜ length (now numbers) ≡ length (now form) ⌝ }
+    ensures { λ r.
+        let s = now (bytes .entry) in
+        ⌜ lineTold s r (now (numbers .exit)) ≡ lineOf (now (form .entry)) (remaining s from) ⌝ }
+{
+    let mut next = from;
+    for k in 0..form.len() {
+        let f = read_signed(bytes, next, form[k], end_byte(k + 1 == form.len()));
+        let SignedRead::Value(z, after) = f else {
+            return TextRead::Bad;
+        };
+        numbers[k] = z;
+        next = after;
+    }
+    TextRead::Past(next)
+}
+
+// A line of four fields by the names of a record's; `minus` says whether a minus may stand in the last two.
+fn read_four(bytes: &[u8], from: Cursor, minus: bool) -> RecordRead
+    ensures { λ r.
+        let s = now (bytes .entry) in
+        ⌜ recordTold s r ≡ mapped recordNamed (lineOf (fourForm minus)) (remaining s from) ⌝ }
+{
+    let mut numbers = [0i32; 4];
+    let line = read_line(bytes, from, &[false, false, minus, minus], &mut numbers);
+    let TextRead::Past(next) = line else {
+        return RecordRead::Bad;
+    };
+    RecordRead::Value(
+        Record {
+            kind: unsigned(numbers[0]),
+            entry: unsigned(numbers[1]),
+            off0: numbers[2],
+            off1: numbers[3],
+        },
+        next,
+    )
+}
+
 // The line of the size: n, width, height and the table count.
 pub fn read_size_line(bytes: &[u8], from: Cursor) -> SizeRead
     ensures { λ r. ⌜ sizeTold (now (bytes .entry)) r ≡ sizeLine (remaining (now (bytes .entry)) from) ⌝ }
 {
-    let a = read_number(bytes, from, 32);
-    let NumberRead::Value(n, after_n) = a else {
+    let line = read_four(bytes, from, false);
+    let RecordRead::Value(r, next) = line else {
         return SizeRead::Bad;
     };
-    let b = read_number(bytes, after_n, 32);
-    let NumberRead::Value(width, after_width) = b else {
-        return SizeRead::Bad;
-    };
-    let c = read_number(bytes, after_width, 32);
-    let NumberRead::Value(height, after_height) = c else {
-        return SizeRead::Bad;
-    };
-    let d = read_number(bytes, after_height, 10);
-    let NumberRead::Value(values, next) = d else {
-        return SizeRead::Bad;
-    };
+    let third = r.off0;
+    let fourth = r.off1;
     SizeRead::Value(
         SizeFields {
-            n,
-            width,
-            height,
-            values,
+            n: r.kind,
+            width: r.entry,
+            height: unsigned(third),
+            values: unsigned(fourth),
         },
         next,
     )
@@ -110,29 +150,5 @@ pub fn read_size_line(bytes: &[u8], from: Cursor) -> SizeRead
 pub fn read_record_line(bytes: &[u8], from: Cursor) -> RecordRead
     ensures { λ r. ⌜ recordTold (now (bytes .entry)) r ≡ recordLine (remaining (now (bytes .entry)) from) ⌝ }
 {
-    let a = read_number(bytes, from, 32);
-    let NumberRead::Value(kind, after_kind) = a else {
-        return RecordRead::Bad;
-    };
-    let b = read_number(bytes, after_kind, 32);
-    let NumberRead::Value(entry, after_entry) = b else {
-        return RecordRead::Bad;
-    };
-    let c = read_signed(bytes, after_entry, 32);
-    let SignedRead::Value(off0, after_off0) = c else {
-        return RecordRead::Bad;
-    };
-    let d = read_signed(bytes, after_off0, 10);
-    let SignedRead::Value(off1, next) = d else {
-        return RecordRead::Bad;
-    };
-    RecordRead::Value(
-        RecordFields {
-            kind,
-            entry,
-            off0,
-            off1,
-        },
-        next,
-    )
+    read_four(bytes, from, true)
 }

@@ -1,4 +1,4 @@
--- The space that writing needs, compared part by part, and the tests of the lengths. Assumes nothing.
+-- The space that writing needs, compared part by part, and the tests of the lengths.
 use Prim.Native.Nat.{ℕ, _-_, _*_, _/_, _≤_, _<_}
 use mathlib.Core.Path.{_≡_, refl, sym}
 use mathlib.Core.Bool.{Bool, true, false}

@@ -1,4 +1,4 @@
--- The steps of writing: one line more in a loop, and the whole text part by part. Assumes nothing.
+-- The steps of writing: one line more in a loop, and the whole text part by part.
 use Prim.Native.Nat.{ℕ, _+_, _*_, _≤_, _<_}
 use mathlib.Core.Path.{_≡_, refl, sym, _∙_, ap, subst}
 use mathlib.Core.Bool.{true}
@@ -11,11 +11,11 @@ use Rattle.arith.specs.Checks.{refused, given}
 use Rattle.arith.specs.Lists.{listOf}
 use Rattle.arith.proofs.CheckLaws.{answer-refused, answer-given, lent-refused, lent-given}
 use Rattle.arith.proofs.ListLaws.{listOf-own}
-use Rattle.record_field.specs.declared.cursor.Cursor.{Cursor}
-use Rattle.record_text.specs.declared.fields.RecordFields.{RecordFields}
+use Rattle.record_text.specs.declared.cursor.Cursor.{Cursor}
+use Rattle.record.specs.declared.Record.{Record}
 use Rattle.record_text.specs.declared.fields.SizeFields.{SizeFields}
 use Rattle.sheet.specs.declared.Sheet.{Sheet}
-use Rattle.record_field.specs.Numeral.{numeralEnd}
+use Rattle.record_text.specs.Numeral.{numeralEnd}
 use Rattle.record_text.specs.Line.{sizeTitle, depthTitle, recordTitle, sizeText, valueText, recordText}
 use Rattle.record_text.specs.Lines.{texts}
 use Rattle.record_text.proofs.LengthLaws.{head-length, value-line-length, record-line-length}
@@ -41,10 +41,10 @@ values-all {l₀} {l} {at} {p} t i e w = subst (λ (x : List ℕ). Written l₀ 
 
 -- ---- records
 
-pub record-is-printed : (r : RecordFields) → Small r → recordPrintable r ≡ true
+pub record-is-printed : (r : Record) → Small r → recordPrintable r ≡ true
 record-is-printed r s = record-printed r (small-printable r s)
 
-pub record-short : (r : RecordFields) → Small r → length (recordText r) ≤ 32
+pub record-short : (r : Record) → Small r → length (recordText r) ≤ 32
 record-short r s = record-line-length r (omega (arith, s .kind)) (omega (arith, s .entry)) (omega (arith, s .off0)) (omega (arith, s .off1))
 
 -- ---- the first three lines
@@ -59,7 +59,7 @@ module _ (S : Sheet) (values : ℕ) (fits : HeadFits S values) where
   header-printed : sizePrintable header ≡ true
   header-printed =
       size-printed header
-      (record { n = omega (arith, fits .n); width = omega (arith, fits .width); height = omega (arith, fits .height); values = omega (arith, fits .table) })
+      (omega (arith, fits .n), (omega (arith, fits .width), (omega (arith, fits .height), (omega (arith, fits .table), tt))))
 
   pub head-written :
       {l₀ l₁ l₂ l₃ : List ℕ} (c₀ c₁ c₂ c₃ : Cursor) → c₀ .at ≡ 0 → 80 ≤ length l₀ → Put l₀ l₁ c₀ sizeTitle c₁
@@ -111,7 +111,7 @@ module _
             )
 
         pub file-written :
-            {l₄ : List ℕ} {d : ℕ} (records : List RecordFields) → Written l₃ l₄ c (texts recordText records) d
+            {l₄ : List ℕ} {d : ℕ} (records : List Record) → Written l₃ l₄ c (texts recordText records) d
             → Written l₀ l₄ 0 (fileText (S .n) (S .width) (S .height) t records) d
         unfolding fileText headText
         file-written records w =

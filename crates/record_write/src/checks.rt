@@ -1,22 +1,21 @@
 // What is checked of a sheet that is written.
 ghost use mathlib.Core.Path.{_≡_};
 ghost use Prim.Native.Nat.{_≤_};
-ghost use lib.Dec.{eqb, leb};
+ghost use lib.Dec.{leb};
 ghost use lib.ListN.{length};
-ghost use Rattle.arith.specs.Checks.{unless};
-ghost use Rattle.depth_table.specs.Table.{tableOk};
+ghost use Rattle.arith.specs.Checks.{refusal};
 ghost use Rattle.pattern.specs.Words.{wholePatterns, patternsOf};
-ghost use Rattle.sheet_checks.specs.Checks.{recordsLent};
-ghost use Rattle.sheet.specs.State.{blocksOf, stateRefusal};
-ghost use Rattle.record_file.specs.Text.{recordAt};
-ghost use Rattle.record_file.specs.Writing.{firstTo, spaceFor, writeLengthsOk, writtenRefusal};
+ghost use Rattle.record.specs.Lent.{recordAt};
+ghost use Rattle.record_file.specs.Writing.{firstTo, spaceFor, writeLengthsOk, writtenRefusal, writeChecks};
 use pattern::check;
 use pattern::count_ok;
 use pattern::whole_patterns;
-use record_file::record_at;
-use record_file::record_refusal;
+use record::Meaning;
+use record::Record;
+use record::meaning_of;
+use record::record_in;
 use sheet::Sheet;
-use sheet_checks::state_refusal;
+use sheet::state_refusal;
 
 // Whether there are 80 + 4 * values + 32 * blocks bytes. The products are not formed: they need not fit a machine word.
 fn space_ok(values: usize, blocks: u64, space: usize) -> bool
@@ -34,7 +33,7 @@ fn space_ok(values: usize, blocks: u64, space: usize) -> bool
 }
 
 // Whether what is lent to writing is long enough.
-pub(crate) fn write_lengths_ok(
+fn write_lengths_ok(
     sheet: Sheet,
     words: usize,
     count: usize,
@@ -55,10 +54,18 @@ pub(crate) fn write_lengths_ok(
     space_ok(values, blocks, space)
 }
 
-// The refusal of the state, with the lengths judged, or of the table, or 0.
-pub(crate) fn finished_refusal(sheet: Sheet, lengths: bool, table: &[u8]) -> u8
-    ensures { λ r. ⌜ r ≡ stateRefusal sheet lengths (unless (eqb (sheet .placed) (blocksOf sheet)) 22 (unless (tableOk (now (table .entry))) 3 0)) ⌝ }
+// The first refusal of what is checked before the records, or 0.
+pub(crate) fn first_refusal(
+    sheet: Sheet,
+    words: usize,
+    count: usize,
+    table: &[u8],
+    records: usize,
+    space: usize,
+) -> u8
+    ensures { λ r. ⌜ r ≡ refusal (writeChecks sheet (now (table .entry)) (wholePatterns (sheet .n) words) count records space) 0 ⌝ }
 {
+    let lengths = write_lengths_ok(sheet, words, count, table.len(), records, space);
     let placed = sheet.placed as u64;
     let blocks = sheet.blocks();
     let tables = check(depth_table::is_table(table), 3, 0);
@@ -73,25 +80,34 @@ pub(crate) fn finished_refusal(sheet: Sheet, lengths: bool, table: &[u8]) -> u8
     )
 }
 
+// The refusal of a record, or 0; no texture is asked for.
+fn record_refusal(n: usize, list: &[u64], count: usize, r: Record) -> u8
+    ensures { λ t. ⌜ t ≡ writtenRefusal n (patternsOf n (now (list .entry))) count r ⌝ }
+{
+    match meaning_of(n, list, count, true, r) {
+        Meaning::Listed(_) => 0,
+        Meaning::Contour => 0,
+        Meaning::Refused(number) => number,
+    }
+}
+
 // The first refusal of the first m records, or 0.
 pub(crate) fn records_refusal(
     n: usize,
     list: &[u64],
     count: usize,
     m: usize,
-    kinds: &[u32],
-    entries: &[u32],
-    offs0: &[i32],
-    offs1: &[i32],
+    records: &[[i32; 4]],
 ) -> u8
-    requires { ⌜ m ≤ recordsLent (length (now kinds)) (length (now entries)) (length (now offs0)) (length (now offs1)) ⌝ }
-    ensures { λ r. ⌜ r ≡ firstTo (λ i. writtenRefusal n (patternsOf n (now (list .entry))) count (recordAt (now (kinds .entry)) (now (entries .entry)) (now (offs0 .entry)) (now (offs1 .entry)) i)) m ⌝ }
+    requires { ⌜ m ≤ length (now records) ⌝ }
+    ensures { λ r.
+        let l = patternsOf n (now (list .entry)) in
+        ⌜ r ≡ firstTo (λ i. writtenRefusal n l count (recordAt (now (records .entry)) i)) m ⌝ }
 {
     let mut refusal = 0;
     for i in 0..m {
         if refusal == 0 {
-            let r = record_at(kinds, entries, offs0, offs1, i);
-            refusal = record_refusal(n, list, count, true, r);
+            refusal = record_refusal(n, list, count, record_in(records[i]));
         }
     }
     refusal

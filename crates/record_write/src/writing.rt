@@ -3,27 +3,26 @@ ghost use mathlib.Core.Path.{_≡_};
 ghost use Prim.Native.Nat.{ℕ, _+_, _*_, _<_, _≤_};
 ghost use lib.ListN.{length};
 ghost use Rattle.pattern.specs.Words.{patternsOf};
-ghost use Rattle.sheet_checks.specs.Checks.{recordsLent};
 ghost use Rattle.record_text.specs.Line.{valueText, recordText};
 ghost use Rattle.record_text.specs.Lines.{texts};
 ghost use Rattle.record_print.specs.Put.{Written};
-ghost use Rattle.record_file.specs.Text.{headText, fileText, recordAt, recordsAt};
+ghost use Rattle.arith.specs.Lists.{listOf};
+ghost use Rattle.record.specs.Lent.{recordAt};
+ghost use Rattle.record_file.specs.Text.{headText, fileText};
 ghost use Rattle.record_file.specs.Writing.{spaceFor, Small, HeadFits, sourceOf, writeAnswer, writeAfter};
 ghost use Rattle.record_write.specs.Told.{wroteTold};
-use crate::checks::finished_refusal;
+use crate::checks::first_refusal;
 use crate::checks::records_refusal;
-use crate::checks::write_lengths_ok;
-use record_field::Cursor;
-use record_file::record_at;
+use record::record_in;
 use record_print::put_depth_title;
 use record_print::put_record_line;
 use record_print::put_record_title;
 use record_print::put_size_line;
 use record_print::put_size_title;
 use record_print::put_value_line;
+use record_text::Cursor;
 use record_text::SizeFields;
 use sheet::Sheet;
-use sheet_checks::records_lent;
 
 // What `write` answers: the length of the text, or the number of its refusal.
 pub enum Wrote {
@@ -52,24 +51,17 @@ fn put_values(out: &mut [u8], from: Cursor, table: &[u8]) -> Cursor
 }
 
 // The lines of the first m records; the place after them.
-fn put_records(
-    out: &mut [u8],
-    from: Cursor,
-    m: usize,
-    kinds: &[u32],
-    entries: &[u32],
-    offs0: &[i32],
-    offs1: &[i32],
-) -> Cursor
+fn put_records(out: &mut [u8], from: Cursor, m: usize, records: &[[i32; 4]]) -> Cursor
     requires { ⌜ from .at + 32 * m ≤ length (now out) ⌝ }
-    requires { ⌜ m ≤ recordsLent (length (now kinds)) (length (now entries)) (length (now offs0)) (length (now offs1)) ⌝ }
-    requires { ⌜ ((i : ℕ) → i < m → Small (recordAt (now kinds) (now entries) (now offs0) (now offs1) i)) ⌝ }
-    ensures { λ r. ⌜ Written (now (out .entry)) (now (out .exit)) (from .at) (texts recordText (recordsAt (now (kinds .entry)) (now (entries .entry)) (now (offs0 .entry)) (now (offs1 .entry)) m)) (r .at) ⌝ }
+    requires { ⌜ m ≤ length (now records) ⌝ }
+    requires { ⌜ ((i : ℕ) → i < m → Small (recordAt (now records) i)) ⌝ }
+    ensures { λ r.
+        let text = texts recordText (listOf (recordAt (now (records .entry))) m) in
+        ⌜ Written (now (out .entry)) (now (out .exit)) (from .at) text (r .at) ⌝ }
 {
     let mut next = from;
     for i in 0..m {
-        let r = record_at(kinds, entries, offs0, offs1, i);
-        next = put_record_line(out, next, r);
+        next = put_record_line(out, next, record_in(records[i]));
     }
     next
 }
@@ -77,7 +69,9 @@ fn put_records(
 // The first three lines; the place after them.
 fn put_head(out: &mut [u8], sheet: Sheet, values: u32) -> Cursor
     requires { ⌜ (HeadFits sheet values) × (80 ≤ length (now out)) ⌝ }
-    ensures { λ r. ⌜ Written (now (out .entry)) (now (out .exit)) 0 (headText (sheet .n) (sheet .width) (sheet .height) values) (r .at) ⌝ }
+    ensures { λ r.
+        let text = headText (sheet .n) (sheet .width) (sheet .height) values in
+        ⌜ Written (now (out .entry)) (now (out .exit)) 0 text (r .at) ⌝ }
 {
     let title = put_size_title(out, Cursor { at: 0 });
     let size = SizeFields {
@@ -91,25 +85,19 @@ fn put_head(out: &mut [u8], sheet: Sheet, values: u32) -> Cursor
 }
 
 // The whole text; its length.
-fn put_file(
-    out: &mut [u8],
-    sheet: Sheet,
-    table: &[u8],
-    m: usize,
-    kinds: &[u32],
-    entries: &[u32],
-    offs0: &[i32],
-    offs1: &[i32],
-) -> usize
+fn put_file(out: &mut [u8], sheet: Sheet, table: &[u8], m: usize, records: &[[i32; 4]]) -> usize
     requires { ⌜ (HeadFits sheet (length (now table))) × (spaceFor (length (now table)) m ≤ length (now out)) ⌝ }
-    requires { ⌜ m ≤ recordsLent (length (now kinds)) (length (now entries)) (length (now offs0)) (length (now offs1)) ⌝ }
-    requires { ⌜ ((i : ℕ) → i < m → Small (recordAt (now kinds) (now entries) (now offs0) (now offs1) i)) ⌝ }
-    ensures { λ r. ⌜ Written (now (out .entry)) (now (out .exit)) 0 (fileText (sheet .n) (sheet .width) (sheet .height) (now (table .entry)) (recordsAt (now (kinds .entry)) (now (entries .entry)) (now (offs0 .entry)) (now (offs1 .entry)) m)) r ⌝ }
+    requires { ⌜ m ≤ length (now records) ⌝ }
+    requires { ⌜ ((i : ℕ) → i < m → Small (recordAt (now records) i)) ⌝ }
+    ensures { λ r.
+        let l = listOf (recordAt (now (records .entry))) m in
+        let text = fileText (sheet .n) (sheet .width) (sheet .height) (now (table .entry)) l in
+        ⌜ Written (now (out .entry)) (now (out .exit)) 0 text r ⌝ }
 {
     let head = put_head(out, sheet, table.len() as u32);
     let values = put_values(out, head, table);
     let title = put_record_title(out, values);
-    let end = put_records(out, title, m, kinds, entries, offs0, offs1);
+    let end = put_records(out, title, m, records);
     end.at
 }
 
@@ -119,34 +107,26 @@ pub fn write(
     list: &[u64],
     count: usize,
     table: &[u8],
-    kinds: &[u32],
-    entries: &[u32],
-    offs0: &[i32],
-    offs1: &[i32],
+    records: &[[i32; 4]],
     out: &mut [u8],
 ) -> Wrote
-    ensures answered { λ r. ⌜ wroteTold r ≡ writeAnswer (sourceOf sheet (now (table .entry)) (recordAt (now (kinds .entry)) (now (entries .entry)) (now (offs0 .entry)) (now (offs1 .entry)))) (patternsOf (sheet .n) (now (list .entry))) count (recordsLent (length (now (kinds .entry))) (length (now (entries .entry))) (length (now (offs0 .entry))) (length (now (offs1 .entry)))) (length (now (out .entry))) ⌝ }
-    ensures left { λ r. ⌜ now (out .exit) ≡ writeAfter (sourceOf sheet (now (table .entry)) (recordAt (now (kinds .entry)) (now (entries .entry)) (now (offs0 .entry)) (now (offs1 .entry)))) (patternsOf (sheet .n) (now (list .entry))) count (recordsLent (length (now (kinds .entry))) (length (now (entries .entry))) (length (now (offs0 .entry))) (length (now (offs1 .entry)))) (now (out .entry)) ⌝ }
+    ensures answered { λ r.
+        let W = sourceOf sheet (now (table .entry)) (recordAt (now (records .entry))) in
+        let l = patternsOf (sheet .n) (now (list .entry)) in
+        ⌜ wroteTold r ≡ writeAnswer W l count (length (now (records .entry))) (length (now (out .entry))) ⌝ }
+    ensures left { λ r.
+        let W = sourceOf sheet (now (table .entry)) (recordAt (now (records .entry))) in
+        let l = patternsOf (sheet .n) (now (list .entry)) in
+        ⌜ now (out .exit) ≡ writeAfter W l count (length (now (records .entry))) (now (out .entry)) ⌝ }
 {
-    let records = records_lent(kinds.len(), entries.len(), offs0.len(), offs1.len());
-    let lengths = write_lengths_ok(sheet, list.len(), count, table.len(), records, out.len());
-    let first = finished_refusal(sheet, lengths, table);
+    let first = first_refusal(sheet, list.len(), count, table, records.len(), out.len());
     if first != 0 {
         return Wrote::Refused(first);
     }
     let m = sheet.blocks() as usize;
-    let bad = records_refusal(
-        sheet.n as usize,
-        list,
-        count,
-        m,
-        kinds,
-        entries,
-        offs0,
-        offs1,
-    );
+    let bad = records_refusal(sheet.n as usize, list, count, m, records);
     if bad != 0 {
         return Wrote::Refused(bad);
     }
-    Wrote::Length(put_file(out, sheet, table, m, kinds, entries, offs0, offs1))
+    Wrote::Length(put_file(out, sheet, table, m, records))
 }

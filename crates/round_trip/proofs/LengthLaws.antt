@@ -1,8 +1,10 @@
--- Lengths: a written text fits the space. Assumes nothing.
+-- A written text fits the space, and a record that is not refused can be lent.
 use Prim.Native.Nat.{ℕ, _≤_, _<_}
 use native.Mathlib.Omega.{arith}
 use lib.ListN.{length, getD, length-append}
 use Rattle.sheet.specs.State.{blocksOf}
+use Rattle.record.specs.declared.Record.{Record}
+use Rattle.record.specs.Lent.{Lendable}
 use Rattle.record_text.specs.Line.{recordText}
 use Rattle.record_text.proofs.LinesLaws.{texts-length}
 use Rattle.record_file.specs.Text.{fileText}
@@ -23,3 +25,6 @@ text-fits W fits byte small =
       values-length (W .table) byte,
       texts-length recordText (W .record-at) 32 (blocksOf (W .sheet)) (λ i h. record-short (W .record-at i) (small i h)),
     ))
+
+pub small-lendable : (r : Record) → Small r → Lendable r
+small-lendable r s = record { kind = omega (arith, s .kind); entry = omega (arith, s .entry) }

@@ -1,36 +1,44 @@
--- Both round trips, on what the calls answer and leave. Assumes nothing.
-use Prim.Native.Nat.{ℕ, _+_, _≤_, _<_}
+-- Both round trips, on what the calls answer and leave.
+use Prim.Native.Nat.{ℕ, zero, suc, _+_, _≤_, _<_}
 use mathlib.Core.Path.{_≡_, refl, sym, _∙_, ap, subst}
-use mathlib.Core.List.{List, [], _++_}
+use mathlib.Core.List.{List, [], _∷_, _++_, map}
 use native.Mathlib.Omega.{arith}
 use borrow.Author.Tests.{le-leb}
-use lib.ListN.{length, getD, take, drop, replicate, length-replicate}
+use lib.IntN.{ℤ}
+use lib.ListN.{length, getD, take, drop, replicate, length-append, length-map, List·getD-append}
 use lib.Seq.{sets, sets-eq, take-at}
 use Rattle.arith.specs.Checks.{given}
 use Rattle.arith.proofs.CheckLaws.{answer-given, lent-given, given-means}
 use Rattle.arith.proofs.ListLaws.{listOf-at}
 use Rattle.depth_table.proofs.TableLaws.{table-bytes}
-use Rattle.choice.specs.Record.{Record}
+use Rattle.record.specs.declared.Record.{Record}
 use Rattle.sheet.specs.declared.Sheet.{Sheet}
 use Rattle.sheet.specs.State.{after, area, blocksOf, finished}
 use Rattle.sheet.specs.Place.{placeRefusal, placeAnswer, placeAfter, placedInTurn}
 use Rattle.sheet.specs.Compose.{Task, composeRefusal}
 use Rattle.sheet.proofs.InTurnLaws.{placed-in-turn}
-use Rattle.record_text.specs.declared.fields.RecordFields.{RecordFields}
 use Rattle.record_text.specs.Lines.{Lined, refusedAt, read}
-use Rattle.record_file.specs.Text.{meant, noRecord, recordAt}
+use Rattle.record.specs.Record.{noRecord}
+use Rattle.record.specs.Lent.{recordAt, recordIn, fieldsOf}
+use Rattle.record.proofs.LentLaws.{record-back}
+use Rattle.depth_table.specs.Table.{mostValues}
+use Rattle.pattern.specs.Answer.{textured}
+use Rattle.sheet_grid.specs.Grid.{mostSamples, mostBlocks}
 use Rattle.record_file.specs.Reading.{File, Aids, readLengthsOk, ReadLengths}
 use Rattle.record_file.specs.Writing.{Source, sourceOf, spaceFor, writeRefusal, writtenText, writeAnswer, writeAfter}
 use Rattle.record_file.proofs.FileLaws.{size-small}
+use Rattle.record_file.proofs.MeaningLaws.{record-small}
 use Rattle.record_file.proofs.LineBounds.{Below, lineEnd, blocks-few, read-below}
 use Rattle.record_file.proofs.RefusalLaws.{accepted-parts, accepted-head, accepted-small}
 use Rattle.record_file.proofs.RoundTrip.{read-lengths, heldBy, sheetOf, written-then-read, read-then-text, read-then-written, read-parts}
-use Rattle.record_lines.specs.Stored.{putRecords}
-use Rattle.record_read.specs.Back.{fileBack, recordIn, samplesBack}
+use Rattle.record_read.specs.Back.{fileBack, inTurn, recordsOver, samplesBack, Lent, reading}
 use Rattle.record_read.proofs.EmptyLaws.{empty-same}
-use Rattle.record_read.proofs.RestLaws.{record-back, lent-same, in-turn-none, in-turn-ext, file-accepted}
-use Rattle.round_trip.specs.Law.{Lent, lentRecords, reading, TextureFits, Enough, emptied, materialBy, recordsOf, drawnTo, placedBy, ReadsBack, ReadWritesBack, storedAt, samplesComposed, recordsComposed, taskBy, WrittenAndRead, ComposedReadsBack, ComposedFrom, ContinuedReadsBack, RoundTrips}
-use Rattle.round_trip.proofs.LengthLaws.{text-fits}
+use Rattle.record_read.proofs.RestLaws.{in-turn-none, in-turn-ext, file-accepted}
+use Rattle.record_read.proofs.BackLaws.{table-first}
+use Rattle.round_trip.specs.Law.{TextureFits, Enough, emptied, materialBy, drawnTo, placedBy, ReadsBack, ReadWritesBack}
+use Rattle.round_trip.specs.Law.{samplesComposed, recordsComposed, taskBy, WrittenAndRead, ComposedReadsBack, ComposedFrom}
+use Rattle.round_trip.specs.Law.{ContinuedReadsBack, RoundTrips}
+use Rattle.round_trip.proofs.LengthLaws.{text-fits, small-lendable}
 use Rattle.round_trip.proofs.ComposedSheet.{composed-means, ready, composed-room, each-accepted, composed-drawn, lengths, accepted-writes, accepted-fits}
 
 -- ---- what is written
@@ -60,11 +68,11 @@ module _ (W : Source) (list : List ℕ) (count records : ℕ) (old : List ℕ) (
 
 -- ---- what is written reads back
 
-enough-read : (A : Aids) (L : Lent) → Enough A L → ReadLengths (length (L .samples)) (lentRecords (L .records)) A
+enough-read : (A : Aids) (L : Lent) → Enough A L → ReadLengths (length (L .samples)) (length (L .records)) A
 unfolding readLengthsOk
 enough-read A L e =
-    read-lengths (length (L .samples)) (lentRecords (L .records)) A
-    (rw (le-leb 16384 (length (L .samples)) (e .samples), le-leb 1024 (lentRecords (L .records)) (e .records)) (e .lists))
+    read-lengths (length (L .samples)) (length (L .records)) A
+    (rw (le-leb mostSamples (length (L .samples)) (e .samples), le-leb mostBlocks (length (L .records)) (e .records)) (e .lists))
 
 module _
     (W : Source) (A : Aids) (records k : ℕ) (old : List ℕ) (L : Lent)
@@ -92,7 +100,7 @@ module _
     file-read : reading A L file ≡ read (heldBy W) []
     file-read =
         ap (reading A L) file-is
-        ∙ written-then-read W A records (length old) (answer-parts .0) (fits .size) (fits .lent) (length (L .samples)) (lentRecords (L .records))
+        ∙ written-then-read W A records (length old) (answer-parts .0) (fits .size) (fits .lent) (length (L .samples)) (length (L .records))
         (enough-read A L enough)
 
     -- the samples of the file are those of the written records
@@ -101,21 +109,21 @@ module _
     samples-placed =
         let S = emptied (W .sheet) in
         ap (λ (s : List ℕ). s ++ drop (area (W .sheet)) (L .samples))
-        (in-turn-ext S (materialBy A W) (recordIn (heldBy W)) (recordsOf W) (replicate (area S) 0) (blocksOf S)
-        (λ i h. ap meant (listOf-at (W .record-at) noRecord (blocksOf S) i h)))
+        (in-turn-ext S (materialBy A W) (inTurn (heldBy W .records)) (W .record-at) (replicate (area S) 0) (blocksOf S)
+        (listOf-at (W .record-at) noRecord (blocksOf S)))
 
     -- `place` accepts each record on its turn
     placed-next :
         (s : List ℕ) → length s ≡ area (W .sheet) → (i : ℕ) → i < blocksOf (W .sheet)
-        → (placeAnswer (after i (emptied (W .sheet))) (drawnTo A W s i) (materialBy A W) (recordsOf W i) ≡ given (after (i + 1) (emptied (W .sheet))))
-        × (placeAfter (after i (emptied (W .sheet))) (drawnTo A W s i) (materialBy A W) (recordsOf W i) ≡ drawnTo A W s (i + 1))
+        → (placeAnswer (after i (emptied (W .sheet))) (drawnTo A W s i) (materialBy A W) (W .record-at i) ≡ given (after (i + 1) (emptied (W .sheet))))
+        × (placeAfter (after i (emptied (W .sheet))) (drawnTo A W s i) (materialBy A W) (W .record-at i) ≡ drawnTo A W s (i + 1))
     placed-next s long i h =
         let F = heldBy W in
         let p = accepted-parts W list count records (length old) (answer-parts .0) in
-        let q = read-parts A (length (L .samples)) (lentRecords (L .records)) F file [] file-read in
-        let e : placeRefusal (after i (emptied (W .sheet))) (area (W .sheet)) (materialBy A W) (recordsOf W i) ≡ 0 =
-        rw (listOf-at (W .record-at) noRecord (blocksOf (W .sheet)) i h) at (file-accepted A F (q .1 .sound) (q .0 .inside (F .n) (p .size)) (q .0 .few (F .n) (p .size)) i h) in
-        placed-in-turn (emptied (W .sheet)) (materialBy A W) (recordsOf W) s i (rw long e)
+        let q = read-parts A (length (L .samples)) (length (L .records)) F file [] file-read in
+        let e : placeRefusal (after i (emptied (W .sheet))) (area (W .sheet)) (materialBy A W) (W .record-at i) ≡ 0 =
+        rw (listOf-at (W .record-at) noRecord (blocksOf (W .sheet)) i h) at (file-accepted A F (q .1 .sound) (record { inside = q .0 .inside (F .n) (p .size); few = q .0 .few (F .n) (p .size) }) i h) in
+        placed-in-turn (emptied (W .sheet)) (materialBy A W) (W .record-at) s i (rw long e)
 
     pub reads-back : ReadsBack W A L file
     reads-back =
@@ -125,53 +133,66 @@ module _
           records = rw file-read refl;
           samples = rw file-read samples-placed;
           placed = placed-next;
-          same = empty-same (W .sheet .n) (W .sheet .width) (W .sheet .height) (p .size) (p .sides) (materialBy A W) (recordsOf W);
+          same = empty-same (W .sheet .n) (W .sheet .width) (W .sheet .height) (p .size) (p .sides) (materialBy A W) (W .record-at);
         }
 
 -- ---- what is accepted is what is written of it
 
+map-at : {A B : Type 0} (f : A → B) (l : List A) (i : ℕ) (d : B) (e : A) → i < length l → getD (map f l) i d ≡ f (getD l i e)
+map-at f [] i d e h = absurd (omega arith)
+map-at f (a ∷ l) zero d e h = refl
+map-at f (a ∷ l) (suc i) d e h = map-at f l i d e (omega arith)
+
 module _ (A : Aids) (L : Lent) (F : File) (s t old : List ℕ) (accepted : reading A L s ≡ read F t) where
-  abbrev left : ℕ → RecordFields
-  left = let x = putRecords (L .records) (F .records) in recordAt (x .0) (x .1 .0) (x .1 .1 .0) (x .1 .1 .1)
+  -- the lent records afterwards
+  abbrev kept : List (List ℤ)
+  kept = recordsOver (F .records) (L .records)
 
   abbrev writes : List ℕ → Type 0
   writes table =
-      let W = sourceOf (sheetOf F) table left in
-      let lent = lentRecords (putRecords (L .records) (F .records)) in
-      (writeAnswer W (A .list (F .n)) (A .count (F .n)) lent (length old) ≡ given (length s))
-      × (writeAfter W (A .list (F .n)) (A .count (F .n)) lent old ≡ s ++ drop (length s) old)
+      let W = sourceOf (sheetOf F) table (recordAt kept) in
+      (writeAnswer W (A .list (F .n)) (A .count (F .n)) (length kept) (length old) ≡ given (length s))
+      × (writeAfter W (A .list (F .n)) (A .count (F .n)) (length kept) old ≡ s ++ drop (length s) old)
 
-  records-room : length (F .records) ≤ lentRecords (L .records)
+  records-room : length (F .records) ≤ length (L .records)
   records-room =
-      let p = read-parts A (length (L .samples)) (lentRecords (L .records)) F s t accepted in
+      let p = read-parts A (length (L .samples)) (length (L .records)) F s t accepted in
       omega (arith, p .0 .records-lent, p .1 .sound .whole, blocks-few (length (A .texture)) _ (p .1 .sound .size))
 
-  left-is : (i : ℕ) → i < length (F .records) → left i ≡ getD (F .records) i noRecord
-  left-is i h = record-back (F .records) (L .records) refl records-room i h
+  kept-room : length (F .records) ≤ length kept
+  kept-room = omega (arith, length-append (map fieldsOf (F .records)) (drop (length (F .records)) (L .records)), length-map (F .records) fieldsOf)
+
+  -- the record at each place is the file's
+  left-is : (i : ℕ) → i < length (F .records) → recordAt kept i ≡ getD (F .records) i noRecord
+  left-is i h =
+      let p = read-parts A (length (L .samples)) (length (L .records)) F s t accepted in
+      let size = size-small (length (A .texture)) _ (p .1 .sound .size) .size in
+      let r = getD (F .records) i noRecord in
+      let small = record-small (F .n) (A .list (F .n)) (A .count (F .n)) (textured (A .texture)) r (p .0 .few (F .n) size) (p .1 .sound .each i h) in
+      ap recordIn
+      (List·getD-append (map fieldsOf (F .records)) (drop (length (F .records)) (L .records)) [] i (omega (arith, length-map (F .records) fieldsOf))
+      ∙ map-at fieldsOf (F .records) i [] noRecord h)
+      ∙ record-back r (small-lendable r small)
 
   writes-it : spaceFor (length (F .table)) (length (F .records)) ≤ length old → writes (F .table)
   writes-it space =
-      let W = sourceOf (sheetOf F) (F .table) left in
-      let lent = lentRecords (putRecords (L .records) (F .records)) in
-      let text = read-then-text A (length (L .samples)) (lentRecords (L .records)) F s t accepted left left-is in
-      let none = read-then-written A (length (L .samples)) (lentRecords (L .records)) F s t accepted left left-is lent (length old)
-      (omega (arith, records-room, lent-same (F .records) (L .records) refl)) space in (
-        text-answered W (A .list (F .n)) (A .count (F .n)) lent old none ∙ ap (λ (x : List ℕ). given (length x)) text,
-        text-left W (A .list (F .n)) (A .count (F .n)) lent old none ∙ ap (λ (x : List ℕ). x ++ drop (length x) old) text,
+      let W = sourceOf (sheetOf F) (F .table) (recordAt kept) in
+      let lent = length (L .records) in
+      let text = read-then-text A (length (L .samples)) lent F s t accepted (recordAt kept) left-is in
+      let none = read-then-written A (length (L .samples)) lent F s t accepted (recordAt kept) left-is (length kept) (length old) kept-room space in (
+        text-answered W (A .list (F .n)) (A .count (F .n)) (length kept) old none ∙ ap (λ (x : List ℕ). given (length x)) text,
+        text-left W (A .list (F .n)) (A .count (F .n)) (length kept) old none ∙ ap (λ (x : List ℕ). x ++ drop (length x) old) text,
       )
 
   -- the table comes back from the array that holds its values before zeros
-  table-back : take (length (F .table)) (sets (replicate 256 0) 0 (F .table)) ≡ F .table
+  table-back : take (length (F .table)) (sets (replicate mostValues 0) 0 (F .table)) ≡ F .table
   table-back =
-      let p = read-parts A (length (L .samples)) (lentRecords (L .records)) F s t accepted in
-      let few = size-small (length (A .texture)) _ (p .1 .sound .size) .values in
-      let zeros : List ℕ = replicate 256 0 in
-      let room : 0 + length (F .table) ≤ length zeros = omega (arith, length-replicate {A = ℕ} 256 0, few) in
-      ap (take (length (F .table))) (sets-eq (F .table) zeros 0 room) ∙ take-at (F .table) (drop (0 + length (F .table)) zeros) (length (F .table)) refl
+      let p = read-parts A (length (L .samples)) (length (L .records)) F s t accepted in
+      table-first (F .table) (size-small (length (A .texture)) _ (p .1 .sound .size) .values)
 
-  pub writes-back : spaceFor (length (F .table)) (blocksOf (sheetOf F)) ≤ length old → writes (take (length (F .table)) (sets (replicate 256 0) 0 (F .table)))
+  pub writes-back : spaceFor (length (F .table)) (blocksOf (sheetOf F)) ≤ length old → writes (take (length (F .table)) (sets (replicate mostValues 0) 0 (F .table)))
   writes-back space =
-      let p = read-parts A (length (L .samples)) (lentRecords (L .records)) F s t accepted in
+      let p = read-parts A (length (L .samples)) (length (L .records)) F s t accepted in
       subst writes (sym table-back) (writes-it (rw (← p .1 .sound .whole) at space))
 
 -- where the answer's refusal is 0, a file was read
@@ -186,7 +207,7 @@ was-read (read F s) h e = record { file = F; rest = s; is = refl }
 
 read-writes : ReadWritesBack
 read-writes A L s old none space =
-    let r = was-read (reading A L s) (read-below A (length (L .samples)) (lentRecords (L .records)) s) none in
+    let r = was-read (reading A L s) (read-below A (length (L .samples)) (length (L .records)) s) none in
     rw (r .is) (writes-back A L (r .file) s (r .rest) old (r .is) (rw (r .is) at space))
 
 -- ---- a composed sheet reads back
@@ -204,7 +225,7 @@ continued S F A table original reach C L k records first old at from answer enou
     T = taskBy A (S .n) table original reach
 
     go :
-        composeRefusal S (length (C .samples)) T (lentRecords (C .records)) ≡ 0 → blocksOf S ≤ records
+        composeRefusal S (length (C .samples)) T (length (C .records)) ≡ 0 → blocksOf S ≤ records
         → spaceFor (length table) (blocksOf S) ≤ length old
         → WrittenAndRead (sourceOf (finished S) table at) A records old L (samplesComposed S T C)
     go none enough space =
@@ -225,22 +246,22 @@ continued S F A table original reach C L k records first old at from answer enou
         }
 
 -- a sheet without a block is composed from its first block on
-new-sheet : (S : Sheet) (T : Task) (C : Lent) → S .placed ≡ 0 → ComposedFrom S T C (C .samples) (storedAt (recordsComposed S T C))
+new-sheet : (S : Sheet) (T : Task) (C : Lent) → S .placed ≡ 0 → ComposedFrom S T C (C .samples) (recordAt (recordsComposed S T C))
 new-sheet S T C e =
-    let f : ℕ → Record = λ j. meant (storedAt (recordsComposed S T C) j) in
+    let f : ℕ → Record = recordAt (recordsComposed S T C) in
     record {
       accepted = λ i h. absurd (omega (arith, e));
       lent =
           subst (λ (k : ℕ). C .samples ≡ placedInTurn (emptied S) (T .material) f (C .samples) k) (sym e)
           (in-turn-none (emptied S) (T .material) f (C .samples));
-      composed = λ i h. let q : S .placed + i ≡ i = omega (arith, e) in ap (storedAt (recordsComposed S T C)) q;
+      composed = λ i h. let q : S .placed + i ≡ i = omega (arith, e) in ap (recordAt (recordsComposed S T C)) q;
     }
 
 composed : ComposedReadsBack
 composed S F A table original reach C L k old e answer space lent =
     let T = taskBy A (S .n) table original reach in
     let means = composed-means S T C answer in
-    continued S F A table original reach C L k (lentRecords (recordsComposed S T C)) (C .samples) old (storedAt (recordsComposed S T C)) (new-sheet S T C e) answer
+    continued S F A table original reach C L k (length (recordsComposed S T C)) (C .samples) old (recordAt (recordsComposed S T C)) (new-sheet S T C e) answer
     (rw (← means .1) (omega (arith, e, composed-room S T C (means .0)))) space lent
 
 -- All round trips hold.

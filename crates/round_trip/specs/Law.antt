@@ -1,51 +1,34 @@
 -- Document 01, "House file": what can be written reads back the same, a file that is accepted is the one the writer makes of what was read,
 -- and a composed sheet that is written and read is the composed sheet again. All are said of what the calls `write`, `read`, `place` and
--- `compose` answer and leave, as their contracts have it. Assumes nothing.
+-- `compose` answer and leave, as their contracts have it.
 use Prim.Native.Nat.{ℕ, _+_, _≤_, _<_}
 use mathlib.Core.Path.{_≡_}
 use mathlib.Core.Bool.{true}
 use mathlib.Core.List.{List, _++_}
 use mathlib.Core.Logic.{_⊎_}
+use lib.IntN.{ℤ}
 use lib.ListN.{length, take, drop, replicate}
 use lib.Seq.{sets}
 use Rattle.arith.specs.Checks.{Answer, given}
 use Rattle.arith.specs.Lists.{listOf}
-use Rattle.choice.specs.Record.{Record}
+use Rattle.record.specs.declared.Record.{Record}
 use Rattle.sheet.specs.declared.Sheet.{Sheet}
 use Rattle.sheet.specs.State.{stateOf, after, area, blocksOf}
-use Rattle.sheet.specs.Place.{Material, materialOf, placeAnswer, placeAfter, placedInTurn}
-use Rattle.sheet.specs.Compose.{missing, Task, taskOf, composeAnswer, composeAfter, composeField}
-use Rattle.sheet_checks.specs.Checks.{recordsLent}
-use Rattle.record_file.specs.Text.{meant, recordAt}
-use Rattle.record_file.specs.Reading.{File, Aids, listsOk, readFile}
+use Rattle.sheet.specs.Place.{Material, placeAnswer, placeAfter, placedInTurn}
+use Rattle.sheet.specs.Compose.{missing, Task, taskOf, composeAnswer, composeAfter, composeRecords}
+use Rattle.sheet_grid.specs.Grid.{mostSamples, mostBlocks}
+use Rattle.depth_table.specs.Table.{mostValues}
+use Rattle.record.specs.Lent.{recordAt}
+use Rattle.record_file.specs.Reading.{Aids, listsOk}
 use Rattle.record_file.specs.Writing.{Source, sourceOf, spaceFor, writeAnswer, writeAfter}
-use Rattle.record_text.specs.declared.fields.RecordFields.{RecordFields}
-use Rattle.record_text.specs.Lines.{Lined}
-use Rattle.record_lines.specs.Stored.{Slices, putRecords}
-use Rattle.record_lines.specs.Back.{recordsBack, leaving}
 use Rattle.record_read.specs.declared.reading.FileBack.{FileBack}
-use Rattle.record_read.specs.Back.{drawnOn, fileBack, samplesBack}
+use Rattle.record_read.specs.Back.{materialFor, drawnOn, fileBack, samplesBack, recordsOver, recordsBack, leaving, Lent, reading}
 
--- what is lent to reading or composing: samples, and records as a slice for each field
-pub record Lent : Type 0 where
-  pub samples : List ℕ
-  pub records : Slices
-
-abbrev pub lentRecords : Slices → ℕ
-lentRecords x = recordsLent (length (x .0)) (length (x .1 .0)) (length (x .1 .1 .0)) (length (x .1 .1 .1))
-
--- the record that stands at each place of the slices
-abbrev pub storedAt : Slices → ℕ → RecordFields
-storedAt x = recordAt (x .0) (x .1 .0) (x .1 .1 .0) (x .1 .1 .1)
-
--- what `read` makes of the bytes s, answers, and leaves
-abbrev pub reading : Aids → Lent → List ℕ → Lined File
-reading A L s = readFile A (length (L .samples)) (lentRecords (L .records)) s
-
+-- what `read` answers, and leaves of what is lent
 abbrev pub answered : Aids → Lent → List ℕ → FileBack
 answered A L s = fileBack (reading A L s)
 
-abbrev pub recordsLeft : Aids → Lent → List ℕ → Slices
+abbrev pub recordsLeft : Aids → Lent → List ℕ → List (List ℤ)
 recordsLeft A L s = leaving (reading A L s) (λ F. recordsBack F (L .records)) (L .records)
 
 abbrev pub samplesLeft : Aids → Lent → List ℕ → List ℕ
@@ -60,41 +43,38 @@ pub record TextureFits (W : Source) (texture : List ℕ) : Type 0 where
 
 -- enough is lent to reading, and the count of each list, of all three sizes, is one that its patterns allow
 pub record Enough (A : Aids) (L : Lent) : Type 0 where
-  pub samples : 16384 ≤ length (L .samples)
-  pub records : 1024 ≤ lentRecords (L .records)
+  pub samples : mostSamples ≤ length (L .samples)
+  pub records : mostBlocks ≤ length (L .records)
   pub lists : listsOk A ≡ true
 
--- the empty sheet of the same size, what the written records are placed with, and which they are
+-- the empty sheet of the same size, and what the written records are placed with
 abbrev pub emptied : Sheet → Sheet
 emptied S = stateOf (S .n) (S .width) (S .height) 0
 
 abbrev pub materialBy : Aids → Source → Material
-materialBy A W = materialOf (A .list (W .sheet .n)) (A .count (W .sheet .n)) (W .table) (A .texture)
-
-abbrev pub recordsOf : Source → ℕ → Record
-recordsOf W i = meant (W .record-at i)
+materialBy A W = materialFor A (W .sheet .n) (W .table)
 
 -- the samples after the first k of them are placed in turn, where s stood on the sheet before
 abbrev pub drawnTo : Aids → Source → List ℕ → ℕ → List ℕ
-drawnTo A W s k = placedInTurn (emptied (W .sheet)) (materialBy A W) (recordsOf W) s k
+drawnTo A W s k = placedInTurn (emptied (W .sheet)) (materialBy A W) (W .record-at) s k
 
 -- the samples that placing all of them in turn on an empty sheet gives
 abbrev pub placedBy : Aids → Source → List ℕ
-placedBy A W = drawnOn (emptied (W .sheet)) (materialBy A W) (recordsOf W)
+placedBy A W = drawnOn (emptied (W .sheet)) (materialBy A W) (W .record-at)
 
 -- the bytes s read back as W: no refusal, the state and the table; the records, and the samples; past them what was there
 pub record ReadsBack (W : Source) (A : Aids) (L : Lent) (s : List ℕ) : Type 0 where
   pub answer :
       answered A L s
-      ≡ record { refusal = 0; line = 0; sheet = W .sheet; values = length (W .table); table = sets (replicate 256 0) 0 (W .table) }
-  pub records : recordsLeft A L s ≡ putRecords (L .records) (listOf (W .record-at) (blocksOf (W .sheet)))
+      ≡ record { refusal = 0; line = 0; sheet = W .sheet; values = length (W .table); table = sets (replicate mostValues 0) 0 (W .table) }
+  pub records : recordsLeft A L s ≡ recordsOver (listOf (W .record-at) (blocksOf (W .sheet))) (L .records)
   pub samples : samplesLeft A L s ≡ placedBy A W ++ drop (area (W .sheet)) (L .samples)
   -- `place` accepts each record on its turn, and leaves the next samples
   pub placed :
       (old : List ℕ) → length old ≡ area (W .sheet) → (i : ℕ) → i < blocksOf (W .sheet)
       → let S = emptied (W .sheet) in
-      (placeAnswer (after i S) (drawnTo A W old i) (materialBy A W) (recordsOf W i) ≡ given (after (i + 1) S))
-      × (placeAfter (after i S) (drawnTo A W old i) (materialBy A W) (recordsOf W i) ≡ drawnTo A W old (i + 1))
+      (placeAnswer (after i S) (drawnTo A W old i) (materialBy A W) (W .record-at i) ≡ given (after (i + 1) S))
+      × (placeAfter (after i S) (drawnTo A W old i) (materialBy A W) (W .record-at i) ≡ drawnTo A W old (i + 1))
   -- the last ones are the samples above, whatever stood on the sheet before
   pub same : (old : List ℕ) → length old ≡ area (W .sheet) → drawnTo A W old (blocksOf (W .sheet)) ≡ placedBy A W
 
@@ -113,7 +93,7 @@ WrittenReadsBack =
 abbrev pub readSource : Aids → Lent → List ℕ → Source
 readSource A L s =
     let back = answered A L s in
-    sourceOf (back .sheet) (take (back .values) (back .table)) (storedAt (recordsLeft A L s))
+    sourceOf (back .sheet) (take (back .values) (back .table)) (recordAt (recordsLeft A L s))
 
 -- Where `read` refuses nothing, `write` makes of what was read the same bytes: it answers their length, and past them nothing changes.
 abbrev pub ReadWritesBack : Type 0
@@ -122,36 +102,24 @@ ReadWritesBack =
     → answered A L s .refusal ≡ 0
     → spaceFor (answered A L s .values) (blocksOf (answered A L s .sheet)) ≤ length old
     → let n = answered A L s .sheet .n in
-    (writeAnswer (readSource A L s) (A .list n) (A .count n) (lentRecords (recordsLeft A L s)) (length old) ≡ given (length s))
-    × (writeAfter (readSource A L s) (A .list n) (A .count n) (lentRecords (recordsLeft A L s)) old ≡ s ++ drop (length s) old)
+    (writeAnswer (readSource A L s) (A .list n) (A .count n) (length (recordsLeft A L s)) (length old) ≡ given (length s))
+    × (writeAfter (readSource A L s) (A .list n) (A .count n) (length (recordsLeft A L s)) old ≡ s ++ drop (length s) old)
 
 -- ---- a composed sheet reads back
 
 -- what `compose` answers, and the samples and records that it leaves of what is lent to it
 abbrev pub composing : Sheet → Task → Lent → Answer (Sheet × ℕ)
-composing S T C = composeAnswer S (C .samples) T (lentRecords (C .records))
+composing S T C = composeAnswer S (C .samples) T (length (C .records))
 
 abbrev pub samplesComposed : Sheet → Task → Lent → List ℕ
-samplesComposed S T C = composeAfter S (C .samples) T (lentRecords (C .records))
+samplesComposed S T C = composeAfter S (C .samples) T (length (C .records))
 
-abbrev pub fieldComposed : {A : Type 0} → (Record → A) → Sheet → Task → Lent → List A → List A
-fieldComposed field S T C old = composeField field S (C .samples) T (lentRecords (C .records)) old
-
-abbrev pub recordsComposed : Sheet → Task → Lent → Slices
-recordsComposed S T C = (
-  fieldComposed (λ r. r .kind) S T C (C .records .0),
-  (
-    fieldComposed (λ r. r .entry) S T C (C .records .1 .0),
-    (
-      fieldComposed (λ r. r .off0) S T C (C .records .1 .1 .0),
-      fieldComposed (λ r. r .off1) S T C (C .records .1 .1 .1),
-    ),
-  ),
-)
+abbrev pub recordsComposed : Sheet → Task → Lent → List (List ℤ)
+recordsComposed S T C = composeRecords S (C .samples) T (C .records)
 
 -- composing a sheet of size n with the list, count and texture of A
 abbrev pub taskBy : Aids → ℕ → List ℕ → List ℕ → ℕ → Task
-taskBy A n table original reach = taskOf (materialOf (A .list n) (A .count n) table (A .texture)) original reach
+taskBy A n table original reach = taskOf (materialFor A n table) original reach
 
 -- what `write` leaves in the lent bytes, with the list and count of A for the sheet's size
 abbrev pub writtenWith : Aids → Source → ℕ → List ℕ → List ℕ
@@ -173,22 +141,22 @@ ComposedReadsBack =
     S .placed ≡ 0 → composing S T C ≡ given (F, k)
     → spaceFor (length table) (blocksOf F) ≤ length old → Enough A L
     → let left = recordsComposed S T C in
-    WrittenAndRead (sourceOf F table (storedAt left)) A (lentRecords left) old L (samplesComposed S T C)
+    WrittenAndRead (sourceOf F table (recordAt left)) A (length left) old L (samplesComposed S T C)
 
 -- the records `at` of a sheet that is composed from the state S on: `place` accepted the first of them in turn on an empty sheet, where the
 -- samples `old` stood before, and left the samples that are lent to composing; the others are those that `compose` leaves
-pub record ComposedFrom (S : Sheet) (T : Task) (C : Lent) (old : List ℕ) (at : ℕ → RecordFields) : Type 0 where
+pub record ComposedFrom (S : Sheet) (T : Task) (C : Lent) (old : List ℕ) (at : ℕ → Record) : Type 0 where
   pub accepted :
       (i : ℕ) → i < S .placed
-      → placeAnswer (after i (emptied S)) (placedInTurn (emptied S) (T .material) (λ j. meant (at j)) old i) (T .material) (meant (at i))
+      → placeAnswer (after i (emptied S)) (placedInTurn (emptied S) (T .material) at old i) (T .material) (at i)
       ≡ given (after (i + 1) (emptied S))
-  pub lent : C .samples ≡ placedInTurn (emptied S) (T .material) (λ j. meant (at j)) old (S .placed)
-  pub composed : (i : ℕ) → i < missing S → at (S .placed + i) ≡ storedAt (recordsComposed S T C) i
+  pub lent : C .samples ≡ placedInTurn (emptied S) (T .material) at old (S .placed)
+  pub composed : (i : ℕ) → i < missing S → at (S .placed + i) ≡ recordAt (recordsComposed S T C) i
 
 -- The same of a sheet on which records were placed before: they come first in the file. `records` is how many are lent to `write`.
 abbrev pub ContinuedReadsBack : Type 0
 ContinuedReadsBack =
-    (S F : Sheet) (A : Aids) (table original : List ℕ) (reach : ℕ) (C L : Lent) (k records : ℕ) (first old : List ℕ) (at : ℕ → RecordFields)
+    (S F : Sheet) (A : Aids) (table original : List ℕ) (reach : ℕ) (C L : Lent) (k records : ℕ) (first old : List ℕ) (at : ℕ → Record)
     → let T = taskBy A (S .n) table original reach in
     ComposedFrom S T C first at → composing S T C ≡ given (F, k)
     → blocksOf F ≤ records → spaceFor (length table) (blocksOf F) ≤ length old → Enough A L

@@ -1,31 +1,37 @@
--- Composing: no choice or placing that it makes is refused where the checks pass. Assumes nothing.
+-- Composing: no choice or placing that it makes is refused where the checks pass.
 use Prim.Native.Nat.{ℕ, _-_, _*_, _≤_}
 use mathlib.Core.Bool.{Bool, true, false, cond}
 use mathlib.Core.List.{List, []}
 use mathlib.Core.Logic.{_⊎_, inl, inr, ⊎-elim}
-use mathlib.Core.Path.{_≡_, refl, sym, _∙_}
+use mathlib.Core.Path.{_≡_, refl, sym, ap, _∙_}
 use native.Mathlib.Omega.{arith}
 use borrow.Author.Tests.{le-leb, lt-ltb}
 use lib.IntN.{ℤ, natAbs}
 use lib.ListN.{length}
 use Rattle.depth_table.specs.Table.{tableOk}
 use Rattle.pattern.proofs.SizeLaws.{one-le-square}
-use Rattle.offset.specs.Offset.{offsetOk}
-use Rattle.choice_checks.specs.Refusal.{chooseRefusal}
-use Rattle.choice.specs.Record.{PatternIn, LeastRecord}
+use Rattle.depth_table.specs.Offset.{offsetOk}
+use Rattle.choice.specs.Case.{Case, caseOf}
+use Rattle.choice.specs.Refusal.{chooseRefusal}
+use Rattle.record.specs.declared.Record.{Record}
+use Rattle.choice.specs.Record.{LeastRecord, predictionOf}
 use Rattle.choice.specs.Search.{chosen}
-use Rattle.choice_checks.proofs.AcceptLaws as accept
-use Rattle.choice_checks.proofs.AcceptLaws.{words-at, accepted}
+use Rattle.choice.proofs.AcceptLaws as accept
+use Rattle.choice.proofs.AcceptLaws.{words-at, accepted}
 use Rattle.choice.proofs.LeastLaws.{chosen-least}
-use Rattle.sheet_blocks.specs.Samples.{cut}
-use Rattle.sheet_neighbours.proofs.AnswerLaws.{length-neighbours}
-use Rattle.sheet_blocks.proofs.AnswerLaws.{length-cut}
-use Rattle.record_checks.proofs.MeaningLaws.{kind-zero, kind-one}
+use Rattle.sheet_grid.specs.Samples.{cut, written}
+use Rattle.sheet_grid.proofs.NeighbourLaws.{length-neighbours}
+use Rattle.sheet_grid.proofs.SampleLaws.{length-cut}
+use Rattle.record.proofs.MeaningLaws.{sound-record}
 use Rattle.sheet.specs.State.{nextX, nextY, Open, Lengths}
-use Rattle.record_checks.specs.Meaning.{kindRefusal, offsetRefusal, recordRefusal}
+use Rattle.record.specs.Meaning.{recordRefusal}
 use Rattle.pattern.specs.Answer.{textured}
-use Rattle.sheet.specs.Place.{nextTexture, placeRefusal}
-use Rattle.sheet.specs.Compose.{Task, composeCase, chosenNext, choiceRefusal}
+use Rattle.arith.specs.Checks.{Answer, given, refused, lent}
+use Rattle.arith.proofs.CheckLaws.{given-means, refused-means, lent-refused}
+use Rattle.choice.specs.Answer.{chooseAnswer}
+use Rattle.sheet_grid.specs.Neighbours.{neighbours}
+use Rattle.sheet.specs.Place.{nextTexture, drawRefusal, placeRefusal}
+use Rattle.sheet.specs.Compose.{Task, composeCase, chosenNext, chosenBlock, composedNext, choiceRefusal}
 use Rattle.sheet.specs.declared.Sheet.{Sheet}
 use Rattle.sheet.proofs.StateLaws.{lengths-do, open-none}
 
@@ -42,7 +48,7 @@ texture-length S t = go (textured t)
     go true = inr (length-cut (S .n) (S .width) (nextX S) (nextY S) t)
     go false = inl refl
 
-textured-next : (S : Sheet) (t : List ℕ) → 1 ≤ S .n → textured (nextTexture S t) ≡ textured t
+pub textured-next : (S : Sheet) (t : List ℕ) → 1 ≤ S .n → textured (nextTexture S t) ≡ textured t
 textured-next S t h = go (textured t)
   where
     go : (b : Bool) → textured (cond b (cut (S .n) (S .width) (nextX S) (nextY S) t) []) ≡ b
@@ -50,6 +56,32 @@ textured-next S t h = go (textured t)
         lt-ltb 0 (length (cut (S .n) (S .width) (nextX S) (nextY S) t))
         (rw (length-cut (S .n) (S .width) (nextX S) (nextY S) t) (one-le-square h))
     go false = refl
+
+-- ---- a record that was chosen is not refused
+
+-- an offset within a reach that is allowed
+offset-in : (reach : ℕ) (z : ℤ) → reach ≤ 255 → natAbs z ≤ reach → offsetOk z ≡ true
+unfolding offsetOk
+offset-in reach z l h = le-leb (natAbs z) 255 (omega arith)
+
+module _ (C : Case) (none : chooseRefusal C ≡ 0) where
+  abbrev best : Record
+  best = chosen C .0
+
+  chosen-sound : recordRefusal (C .n) (C .list) (C .count) (textured (C .texture)) best ≡ 0
+  chosen-sound =
+      let a = accepted C none in
+      let w = chosen-least C (a .some) .within in
+      sound-record (C .n) (C .list) (C .count) (textured (C .texture)) best
+      (record {
+        names =
+            ⊎-elim
+            (λ p. inl (p .0, p .1, words-at (C .n) (C .list) (C .count) (a .words) (best .entry) (p .1)))
+            (λ p. inr (p .0, p .1, lt-ltb 0 (length (C .texture)) (p .2)))
+            (w .pattern-in);
+        first = offset-in (C .reach) (best .off0) (a .near) (w .off0-in);
+        second = offset-in (C .reach) (best .off1) (a .near) (w .off1-in);
+      })
 
 -- ---- the choice for a block is refused where composing is
 
@@ -77,32 +109,48 @@ module _ (S : Sheet) (T : Task) (s : List ℕ) (o : Open S) (words : T .material
     pub chosen-best : LeastRecord (composeCase S T s) (chosenNext S T s) (chosen (composeCase S T s) .1)
     chosen-best = chosen-least (composeCase S T s) (accepted (composeCase S T s) (choose-refusal ∙ none) .some)
 
-    offset-in : (z : ℤ) → natAbs z ≤ T .reach → offsetOk z ≡ true
-    unfolding offsetOk
-    offset-in z h = le-leb (natAbs z) 255 (omega (arith, accepted (composeCase S T s) (choose-refusal ∙ none) .near))
-
-    chosen-kind :
-        (kind entry rest : ℕ) → PatternIn (composeCase S T s) kind entry
-        → kindRefusal (S .n) (T .material .list) (T .material .count) (textured (T .material .texture)) kind entry rest ≡ rest
-    chosen-kind kind entry rest =
-        ⊎-elim
-        (λ p.
-        kind-zero (S .n) (T .material .list) (T .material .count) (textured (T .material .texture)) entry rest (p .0) (p .1)
-        (words-at (S .n) (T .material .list) (T .material .count) (accepted (composeCase S T s) (choose-refusal ∙ none) .words) entry (p .1)))
-        (λ p.
-        kind-one (S .n) (T .material .list) (T .material .count) (textured (T .material .texture)) entry rest (p .0) (p .1)
-        (sym (textured-next S (T .material .texture) (omega (arith, o .low))) ∙ lt-ltb 0 _ (p .2)))
-
     pub chosen-record :
         recordRefusal (S .n) (T .material .list) (T .material .count) (textured (T .material .texture)) (chosenNext S T s) ≡ 0
-    unfolding recordRefusal
     chosen-record =
-        let w = chosen-best .within in
-        chosen-kind _ _ (offsetRefusal (chosenNext S T s)) (w .pattern-in)
-        ∙ rw (offset-in (chosenNext S T s .off0) (w .off0-in), offset-in (chosenNext S T s .off1) (w .off1-in))
+        rw (sym (textured-next S (T .material .texture) (omega (arith, o .low)))) (chosen-sound (composeCase S T s) (choose-refusal ∙ none))
 
     pub chosen-placed :
         Lengths S (length s) (length (T .material .list)) (T .material .count) (length (T .material .texture))
         → placeRefusal S (length s) (T .material) (chosenNext S T s) ≡ 0
     unfolding placeRefusal
     chosen-placed l = open-none S _ (T .material .table) _ o (lengths-do S _ _ _ _ l) sound ∙ chosen-record
+
+-- ---- one block: the choice is made, and its record drawn
+
+module _ (w x y : ℕ) (C : Case) (s : List ℕ) where
+  -- the case that the record is drawn for
+  abbrev case : Case
+  case = caseOf (C .n) (C .list) (C .count) (C .neighbours) [] (C .table) 0 (C .texture)
+
+  -- a record that was chosen is drawn
+  pub chosen-drawn :
+      {r : Record} {cost : ℕ} {u : List ℕ} → given (r, cost) ≡ chooseAnswer C
+      → u ≡ lent (drawRefusal case r) (written (C .n) w x y (predictionOf case r) s) s → u ≡ chosenBlock (C .n) w x y C s
+  unfolding chooseAnswer chosenBlock drawRefusal
+  chosen-drawn {r} {cost} {u} e q =
+      let m = given-means (chooseRefusal C) (chosen C) (r, cost) (sym e) in
+      let b : r ≡ chosen C .0 = sym (ap (λ (p : Record × ℕ). p .0) (m .1)) in
+      rw (m .0) (rw (b, accepted C (m .0) .sound, chosen-sound C (m .0)) at q)
+
+  -- a choice that is refused alters nothing
+  pub chosen-never : {k : ℕ} → refused k ≡ chooseAnswer C → s ≡ chosenBlock (C .n) w x y C s
+  unfolding chooseAnswer chosenBlock
+  chosen-never {k} e = lent-refused (chooseRefusal C) _ s (refused-means (chooseRefusal C) k (chosen C) (sym e) .1)
+
+-- the case and the block of the next place, from what the code has in hand
+module _ (S : Sheet) (T : Task) (s : List ℕ) {near own light : List ℕ} {x y : ℕ} (column : x ≡ nextX S) (row : y ≡ nextY S) (bordered : near ≡ neighbours (S .n) (S .width) (S .placed) s) (owned : own ≡ cut (S .n) (S .width) (nextX S) (nextY S) (T .original)) (lit : light ≡ nextTexture S (T .material .texture)) where
+  abbrev its : Case
+  its = caseOf (S .n) (T .material .list) (T .material .count) near own (T .material .table) (T .reach) light
+
+  case-next : its ≡ composeCase S T s
+  case-next = rw (bordered, owned, lit)
+
+  pub choose-next :
+      {a : Answer (Record × ℕ)} {u : List ℕ} → a ≡ chooseAnswer its → u ≡ chosenBlock (S .n) (S .width) x y its s
+      → (a ≡ chooseAnswer (composeCase S T s)) × (u ≡ composedNext S T s)
+  choose-next p q = (p ∙ ap chooseAnswer case-next, rw (case-next, column, row) at q)

@@ -1,9 +1,8 @@
--- Composing places the chosen records one by one, and each is the choice for its block. Assumes nothing.
+-- Composing places the chosen records one by one, and each is the choice for its block.
 use Prim.Native.Nat.{ℕ, zero, suc, _<_}
 use mathlib.Core.List.{List}
 use mathlib.Core.Path.{_≡_, refl, sym, ap, _∙_}
 use native.Mathlib.Numerals.{add-one}
-use native.Mathlib.Omega.{arith}
 use lib.ListN.{length}
 use Rattle.arith.specs.Checks.{given}
 use Rattle.choice.specs.Record.{LeastRecord}
@@ -29,11 +28,11 @@ composed-in-turn S T s (suc k) =
 
 module _ (S : Sheet) (T : Task) (s : List ℕ) (records : ℕ) (none : composeRefusal S (length s) T records ≡ 0) where
   -- the checks of the state and of the choices pass
-  both : Ready S T (length s) records records records records × (choiceRefusal S T ≡ 0)
+  both : Ready S T (length s) records × (choiceRefusal S T ≡ 0)
   unfolding composeRefusal
   both =
       let p = opened S (lengthsHold S T (length s) records) (T .material .table) (choiceRefusal S T) none in
-      (compose-ready S T (length s) records (p .0) (omega arith), p .1)
+      (compose-ready S T (length s) records (p .0), p .1)
 
   -- the k-th missing block
   module _ (k : ℕ) (more : k < missing S) where

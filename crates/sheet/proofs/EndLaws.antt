@@ -1,19 +1,17 @@
--- What `compose` answers and leaves, by what its checks say. Assumes nothing.
-use Prim.Native.Nat.{ℕ, _-_, _≤_, min}
+-- What `compose` answers and leaves, by what its checks say.
+use Prim.Native.Nat.{ℕ, _-_}
 use mathlib.Core.Bool.{Bool}
 use mathlib.Core.List.{List}
 use mathlib.Core.Path.{_≡_, sym, ap, _∙_}
-use native.Mathlib.Omega.{arith}
 use borrow.Author.Tests.{eqb-true, leb-true}
 use lib.Dec.{eqb, leb}
+use lib.IntN.{ℤ}
 use lib.ListN.{length}
 use Rattle.arith.specs.Checks.{Answer, refused, answer}
 use Rattle.arith.proofs.Bools.{both-of}
 use Rattle.arith.proofs.CheckLaws.{answer-refused, lent-refused}
-use Rattle.choice.specs.Record.{Record}
-use Rattle.sheet_checks.specs.Checks.{recordsLent}
 use Rattle.sheet.specs.State.{area, blocksOf, finished, lengthsOk, openRefusal}
-use Rattle.sheet.specs.Compose.{missing, Task, samplesBy, fieldBy, composeLengthsOk, choiceRefusal, Ready, composeRefusal, composeAnswer, composeAfter, composeField}
+use Rattle.sheet.specs.Compose.{missing, Task, samplesBy, recordsBy, composeLengthsOk, choiceRefusal, Ready, composeRefusal, composeAnswer, composeAfter, composeRecords}
 use Rattle.sheet.specs.declared.Sheet.{Sheet}
 use Rattle.sheet.proofs.StateLaws.{lengths-are, open-kept, open-passed, Opened}
 
@@ -38,22 +36,17 @@ module _ (S : Sheet) (T : Task) (samples records : ℕ) where
 
   -- what then holds
   pub compose-ready :
-      Opened S lengthsHold (T .material .table) → {kinds entries offs0 offs1 : ℕ} → records ≡ recordsLent kinds entries offs0 offs1
-      → Ready S T samples kinds entries offs0 offs1
+      Opened S lengthsHold (T .material .table) → Ready S T samples records
   unfolding composeLengthsOk
-  compose-ready o {kinds} {entries} {offs0} {offs1} e =
+  compose-ready o =
       let a = both-of (lengthsOk S samples (length (T .material .list)) (T .material .count) (length (T .material .texture))) _ (o .right) in
       let b = both-of (eqb (length (T .original)) (area S)) (leb (blocksOf S) records) (a .1) in
-      let r : blocksOf S ≤ min kinds (min entries (min offs0 offs1)) = rw e at (leb-true (blocksOf S) records (b .1)) in
       record {
         is-open = o .is;
         lengths = lengths-are S samples (length (T .material .list)) (T .material .count) (length (T .material .texture)) (a .0);
         same = eqb-true (length (T .original)) (area S) (b .0);
         sound = o .sound;
-        kinds-room = omega arith;
-        entries-room = omega arith;
-        offs0-room = omega arith;
-        offs1-room = omega arith;
+        room = leb-true (blocksOf S) records (b .1);
       }
 
 -- ---- the answer and the slices
@@ -68,11 +61,11 @@ module _ (S : Sheet) (s : List ℕ) (T : Task) (records : ℕ) where
   unfolding composeAfter
   samples-refused e h = lent-refused (composeRefusal S (length s) T records) _ s (λ z. h (e ∙ z))
 
-  pub field-refused :
-      {A : Type 0} (field : Record → A) (old : List A) {k : ℕ} → k ≡ composeRefusal S (length s) T records → (k ≡ 0 → ⊥)
-      → old ≡ composeField field S s T records old
-  unfolding composeField
-  field-refused field old e h = lent-refused (composeRefusal S (length s) T records) _ old (λ z. h (e ∙ z))
+  pub records-refused :
+      (old : List (List ℤ)) {k : ℕ} → records ≡ length old → k ≡ composeRefusal S (length s) T records → (k ≡ 0 → ⊥)
+      → old ≡ composeRecords S s T old
+  unfolding composeRecords
+  records-refused old l e h = lent-refused (composeRefusal S (length s) T (length old)) _ old (λ z. h (e ∙ (rw l z)))
 
   module _ (passed : composeRefusal S (length s) T records ≡ choiceRefusal S T) where
     pub told-by : {x : Answer (Sheet × ℕ)} → x ≡ answer (choiceRefusal S T) (finished S, missing S) → x ≡ composeAnswer S s T records
@@ -83,8 +76,7 @@ module _ (S : Sheet) (s : List ℕ) (T : Task) (records : ℕ) where
     unfolding composeAfter
     samples-by e = rw passed e
 
-    pub field-by :
-        {A : Type 0} (field : Record → A) (old : List A) {l : List A}
-        → l ≡ fieldBy (choiceRefusal S T) field S s T old → l ≡ composeField field S s T records old
-    unfolding composeField
-    field-by field old e = rw passed e
+    pub records-by :
+        (old : List (List ℤ)) {l : List (List ℤ)} → records ≡ length old → l ≡ recordsBy (choiceRefusal S T) S s T old → l ≡ composeRecords S s T old
+    unfolding composeRecords
+    records-by old {l} n e = rw (← n, passed) e

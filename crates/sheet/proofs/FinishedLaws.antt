@@ -1,73 +1,65 @@
--- Refusal 20: a finished sheet gets no block more, and nothing else is refused with it. Assumes nothing.
+-- Refusal 20: a finished sheet gets no block more, and nothing else is refused with it.
 use Prim.Native.Nat.{ℕ, zero, suc, _≤_}
-use mathlib.Core.Bool.{Bool, true, false, _||_}
-use mathlib.Core.List.{List}
+use mathlib.Core.Bool.{Bool, true, false}
+use mathlib.Core.List.{List, [], _∷_}
 use mathlib.Core.Path.{_≡_, refl}
 use native.Mathlib.Omega.{arith}
 use borrow.Author.Tests.{leb-true, ltb-false, le-leb, le-ltb}
-use lib.Dec.{eqb, leb, ltb}
-use lib.ListN.{length, getD}
-use Rattle.arith.specs.Checks.{unless}
+use lib.Dec.{ltb}
+use lib.ListN.{length}
+use Rattle.arith.specs.Checks.{unless, refusal}
+use Rattle.arith.proofs.CheckLaws.{later}
 use Rattle.depth_table.specs.Table.{tableOk}
-use Rattle.pattern.specs.Size.{sizeOk, wordOk}
-use Rattle.offset.specs.Offset.{offsetOk}
-use Rattle.choice_checks.specs.Refusal.{wordsOk}
-use Rattle.choice.specs.Record.{Record}
-use Rattle.sheet_checks.specs.Checks.{openRefusalBy}
-use Rattle.sheet.specs.State.{blocksOf, sidesOk, lengthsOk, openRefusal}
-use Rattle.record_checks.specs.Meaning.{kindRefusal, offsetRefusal, recordRefusal}
-use Rattle.sheet.specs.Place.{Material, placeRefusal}
+use Rattle.depth_table.specs.Offset.{offsetOk}
+use Rattle.pattern.specs.Size.{sizeOk}
 use Rattle.pattern.specs.Answer.{textured}
-use Rattle.sheet.specs.Compose.{Task, choiceRefusal, composeRefusal}
+use Rattle.record.specs.declared.Record.{Record}
+use Rattle.record.specs.Meaning.{kindMeaning, kindRefusal, offsetRefusal, recordRefusal}
+use Rattle.sheet.specs.Checks.{stateChecks, startRefusalBy}
+use Rattle.sheet.specs.State.{blocksOf, sidesOk, lengthsOk, openRefusal}
+use Rattle.sheet.specs.Place.{Material, placeRefusal}
+use Rattle.sheet.specs.Compose.{Task, choiceChecks, choiceRefusal, composeRefusal}
 use Rattle.sheet.specs.declared.Sheet.{Sheet}
 use Rattle.sheet.proofs.EndLaws.{lengthsHold}
 
--- a number that is not this check's comes from a check after it
-later : (b : Bool) (k : ℕ) {x m : ℕ} → (k ≡ m → ⊥) → unless b k x ≡ m → (b ≡ true) × (x ≡ m)
-later true k h e = (refl, e)
-later false k h e = absurd (h e)
-
 module _ (S : Sheet) (lengths : Bool) (t : List ℕ) (rest : ℕ) where
+  -- the checks before 20, and what comes after them
+  abbrev checks : List (Bool × ℕ)
+  checks = stateChecks (S .n) (S .width) (S .height) (S .placed) lengths
+
+  abbrev after-them : ℕ
+  after-them = refusal ((ltb (S .placed) (blocksOf S), 20) ∷ (tableOk t, 3) ∷ []) rest
+
   -- a finished sheet whose size, lengths and sides are right
   finished-open :
       sizeOk (S .n) ≡ true → lengths ≡ true → sidesOk S ≡ true → S .placed ≡ blocksOf S → openRefusal S lengths t rest ≡ 20
-  unfolding openRefusalBy
+  unfolding startRefusalBy
   finished-open size right sides all =
       rw (size, right, sides, le-leb (S .placed) (blocksOf S) (omega arith), le-ltb (S .placed) (blocksOf S) (omega arith))
 
   -- nothing else gives 20, if the checks after these do not
   open-finished : (rest ≡ 20 → ⊥) → openRefusal S lengths t rest ≡ 20 → S .placed ≡ blocksOf S
-  unfolding openRefusalBy
+  unfolding startRefusalBy
   open-finished h e =
-      let a = later (sizeOk (S .n)) 1 (λ z. absurd (omega arith)) e in
-      let b = later lengths 2 (λ z. absurd (omega arith)) (a .1) in
-      let c = later (sidesOk S) 8 (λ z. absurd (omega arith)) (b .1) in
-      let d = later (leb (S .placed) (blocksOf S)) 23 (λ z. absurd (omega arith)) (c .1) in
-      go (ltb (S .placed) (blocksOf S)) refl (leb-true (S .placed) (blocksOf S) (d .0)) (d .1)
+      let p = later checks after-them 20 refl e in
+      go (ltb (S .placed) (blocksOf S)) refl (leb-true (S .placed) (blocksOf S) (p .0 .1 .1 .1 .0)) (p .1)
     where
       go :
-          (b : Bool) → ltb (S .placed) (blocksOf S) ≡ b → S .placed ≤ blocksOf S → unless b 20 (unless (tableOk t) 3 rest) ≡ 20
+          (b : Bool) → ltb (S .placed) (blocksOf S) ≡ b → S .placed ≤ blocksOf S → unless b 20 (refusal ((tableOk t, 3) ∷ []) rest) ≡ 20
           → S .placed ≡ blocksOf S
       go false p l q = omega (arith, ltb-false (S .placed) (blocksOf S) p)
-      go true p l q = absurd (h (later (tableOk t) 3 (λ z. absurd (omega arith)) q .1))
+      go true p l q = absurd (h (later ((tableOk t, 3) ∷ []) rest 20 refl q .1))
 
 -- ---- placing
 
 offsets-not : (r : Record) → offsetRefusal r ≡ 20 → ⊥
-offsets-not r e =
-    let a = later (offsetOk (r .off0)) 4 (λ z. absurd (omega arith)) e in
-    let b = later (offsetOk (r .off1)) 4 (λ z. absurd (omega arith)) (a .1) in
-    omega (arith, b .1)
+offsets-not r e = omega (arith, later ((offsetOk (r .off0), 4) ∷ (offsetOk (r .off1), 4) ∷ []) 0 20 refl e .1)
 
 kind-not :
     (n : ℕ) (list : List ℕ) (count : ℕ) (lent : Bool) (kind entry : ℕ) {rest : ℕ} → (rest ≡ 20 → ⊥)
     → kindRefusal n list count lent kind entry rest ≡ 20 → ⊥
-kind-not n list count lent zero entry h e =
-    let a = later (ltb entry count) 6 (λ z. absurd (omega arith)) e in
-    h (later (wordOk n (getD list entry 0)) 5 (λ z. absurd (omega arith)) (a .1) .1)
-kind-not n list count lent (suc zero) entry h e =
-    let a = later (eqb entry 0) 7 (λ z. absurd (omega arith)) e in
-    h (later lent 21 (λ z. absurd (omega arith)) (a .1) .1)
+kind-not n list count lent zero entry {rest} h e = h (later (kindMeaning n list count lent zero entry .0) rest 20 refl e .1)
+kind-not n list count lent (suc zero) entry {rest} h e = h (later (kindMeaning n list count lent (suc zero) entry .0) rest 20 refl e .1)
 kind-not n list count lent (suc (suc kind)) entry h e = absurd (omega arith)
 
 -- a finished sheet accepts no placing
@@ -90,11 +82,7 @@ place-twenty S samples M r =
 
 choice-not : (S : Sheet) (T : Task) → choiceRefusal S T ≡ 20 → ⊥
 unfolding choiceRefusal
-choice-not S T e =
-    let a = later (wordsOk (S .n) (T .material .list) (T .material .count)) 5 (λ z. absurd (omega arith)) e in
-    let b = later (leb (T .reach) 255) 4 (λ z. absurd (omega arith)) (a .1) in
-    let c = later (ltb 0 (T .material .count) || textured (T .material .texture)) 10 (λ z. absurd (omega arith)) (b .1) in
-    omega (arith, c .1)
+choice-not S T e = omega (arith, later (choiceChecks S T) 0 20 refl e .1)
 
 pub compose-finished :
     (S : Sheet) (samples : ℕ) (T : Task) (records : ℕ) → sizeOk (S .n) ≡ true → lengthsHold S T samples records ≡ true

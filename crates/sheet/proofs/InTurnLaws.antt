@@ -1,4 +1,4 @@
--- Records placed in turn. Assumes nothing.
+-- Records placed in turn.
 use Prim.Native.Nat.{ℕ, zero, suc, _+_, _-_, _≤_, _<_}
 use mathlib.Core.List.{List}
 use mathlib.Core.Path.{_≡_, refl, sym, ap, _∙_}
@@ -7,11 +7,11 @@ use native.Mathlib.Omega.{arith}
 use lib.ListN.{length}
 use lib.Seq.{ext-getD}
 use Rattle.arith.specs.Checks.{given}
-use Rattle.choice.specs.Record.{Record}
+use Rattle.record.specs.declared.Record.{Record}
 use Rattle.sheet.specs.State.{after, area, Open}
 use Rattle.sheet.specs.Place.{Material, placeRefusal, placeAnswer, placeAfter, placedInTurn}
 use Rattle.sheet.specs.Compose.{missing}
-use Rattle.sheet_neighbours.specs.Laws.{SameBefore}
+use Rattle.sheet_grid.specs.NeighbourCases.{SameBefore}
 use Rattle.sheet.specs.declared.Sheet.{Sheet}
 use Rattle.sheet.proofs.PlaceLaws.{length-placed, place-accepted}
 use Rattle.sheet.proofs.OtherLaws.{placed-same, holding-inside}

@@ -1,6 +1,5 @@
 -- Laws of the definitions.
 pub mod StateLaws
-pub mod CallLaws
 pub mod MeaningLaws
 pub mod PlaceLaws
 pub mod OtherLaws
@@ -11,3 +10,5 @@ pub mod EndLaws
 pub mod InTurnLaws
 pub mod ComposedLaws
 pub mod FinishedLaws
+pub mod SideLaws
+pub mod DrawLaws

@@ -1,4 +1,4 @@
--- Placing writes its own block only, by what stands in the blocks before it. Assumes nothing.
+-- Placing writes its own block only, by what stands in the blocks before it.
 use Prim.Native.Nat.{ℕ, _+_, _-_, _*_, _/_, _%_, _≤_, _<_}
 use mathlib.Core.Bool.{Bool, true, false}
 use mathlib.Core.List.{List, []}
@@ -9,17 +9,20 @@ use lib.Arith.{digits-lt, digits-div, digits-mod}
 use lib.ListN.{length, getD}
 use Rattle.arith.specs.Square.{place}
 use Rattle.arith.proofs.Bools.{clash, both-of}
-use Rattle.choice_checks.specs.Case.{caseOf}
-use Rattle.choice.specs.Record.{Record, predictionOf}
-use Rattle.sheet_blocks.specs.Grid.{sideOk, blockX, blockY, blockHolding}
-use Rattle.sheet_blocks.specs.Samples.{covers, written}
+use Rattle.choice.specs.Case.{caseOf}
+use Rattle.choice.specs.Record.{predictionOf}
+use Rattle.record.specs.declared.Record.{Record}
+use Rattle.sheet_grid.specs.Grid.{sideOk, blockX, blockY, blockHolding}
+use Rattle.sheet_grid.specs.Samples.{covers, written}
 use Rattle.sheet.specs.State.{area, blocksOf, nextX, nextY, Open}
-use Rattle.sheet.specs.Place.{Material, nextTexture, placeCase, placedSamples}
-use Rattle.sheet_neighbours.specs.Laws.{SameBefore}
+use Rattle.sheet.specs.Place.{Material, nextTexture, drawn, placedSamples}
+use Rattle.sheet.specs.Laws.{Draws}
+use Rattle.prediction.proofs.BlockLaws.{length-predicted}
+use Rattle.sheet_grid.specs.NeighbourCases.{SameBefore}
 use Rattle.sheet.specs.declared.Sheet.{Sheet}
-use Rattle.sheet_checks.proofs.SideLaws.{multiple}
-use Rattle.sheet_neighbours.proofs.NeighbourLaws.{neighbours-same}
-use Rattle.sheet_blocks.proofs.SampleLaws.{covered, covers-all, written-covered, written-others}
+use Rattle.sheet.proofs.SideLaws.{multiple}
+use Rattle.sheet_grid.proofs.NeighbourLaws.{neighbours-same}
+use Rattle.sheet_grid.proofs.SampleLaws.{covered, covers-all, written-covered, written-others}
 
 -- a sample that block k covers is held by block k
 along : (n q c : ℕ) → q * n ≤ c → c < q * n + n → c / n ≡ q
@@ -93,13 +96,20 @@ module _ (S : Sheet) (o : Open S) where
 
   -- ---- what a placing reads
 
-  -- samples that are the same in every block before the next one predict the same block
-  predicted-same :
-      (M : Material) (s t : List ℕ) (r : Record) → SameBefore (S .n) (S .width) (area S) (S .placed) s t
-      → predictionOf (placeCase S M s) r ≡ predictionOf (placeCase S M t) r
-  predicted-same M s t r same =
+  -- samples that are the same in every block before the next one draw the same block
+  drawn-same :
+      (M : Material) (r : Record) (s t : List ℕ) → SameBefore (S .n) (S .width) (area S) (S .placed) s t → drawn S M s r ≡ drawn S M t r
+  drawn-same M r s t same =
       ap (λ (b : List ℕ). predictionOf (caseOf (S .n) (M .list) (M .count) b [] (M .table) 0 (nextTexture S (M .texture))) r)
       (neighbours-same (S .n) (S .width) (S .height) (S .placed) positive-n (o .missing) s t same)
+
+  -- what is drawn is a block of n * n samples, which depends on samples of blocks already placed only
+  pub draws : (M : Material) (r : Record) → Draws S M r
+  draws M r =
+      record {
+        whole = λ s. length-predicted (S .n) _ _ _ _ _;
+        before = drawn-same M r;
+      }
 
   -- and are then the same in the next block too
   pub placed-same :
@@ -122,15 +132,15 @@ module _ (S : Sheet) (o : Open S) where
       y = nextY S
 
       p : List ℕ
-      p = predictionOf (placeCase S M s) r
+      p = drawn S M s r
 
       q : List ℕ
-      q = predictionOf (placeCase S M t) r
+      q = drawn S M t r
 
       go : (b : Bool) → covers n x y (j % w) (j / w) ≡ b → getD (written n w x y p s) j 0 ≡ getD (written n w x y q t) j 0
       go true e =
           written-covered n w x y p s j (omega arith) e
-          ∙ ap (λ (b : List ℕ). getD b (place n (j % w - x) (j / w - y)) 0) (predicted-same M s t r same)
+          ∙ ap (λ (b : List ℕ). getD b (place n (j % w - x) (j / w - y)) 0) (drawn-same M r s t same)
           ∙ sym (written-covered n w x y q t j (omega arith) e)
       go false e =
           let d : blockHolding n w j ≡ S .placed → ⊥ = λ z. clash (sym (holding-covers j z) ∙ e) in

@@ -1,36 +1,28 @@
--- What holds in a turn of the loop that composes, and at its ends. Assumes nothing.
+-- What holds in a turn of the loop that composes, and at its ends.
 use Prim.Native.Nat.{ℕ, _-_, _≤_, _<_}
 use mathlib.Core.Bool.{true}
 use mathlib.Core.List.{List}
 use mathlib.Core.Logic.{_⊎_, ⊎-elim}
 use mathlib.Core.Path.{_≡_, sym, ap, ap₂, _∙_}
 use native.Mathlib.Omega.{arith}
-use borrow.Author.Tests.{ltb-true}
 use lib.IntN.{ℤ}
 use lib.ListN.{length}
 use Rattle.arith.specs.Checks.{Answer, refused, given, answer}
 use Rattle.arith.specs.Lists.{listOf}
 use Rattle.arith.proofs.CheckLaws.{lent-refused, lent-given, given-means, refused-means}
 use Rattle.depth_table.specs.Table.{tableOk}
-use Rattle.choice_checks.specs.Refusal.{chooseRefusal}
-use Rattle.choice.specs.Record.{Record}
+use Rattle.choice.specs.Refusal.{chooseRefusal}
+use Rattle.record.specs.declared.Record.{Record}
 use Rattle.choice.specs.Search.{chosen}
 use Rattle.choice.specs.Answer.{chooseAnswer}
-use Rattle.sheet_steps.specs.Steps.{blockCase}
-use Rattle.sheet_steps.proofs.ChooseLaws.{case-inside}
 use Rattle.sheet.specs.State.{area, blocksOf, finished, Open, Lengths}
-use Rattle.sheet.specs.Place.{placeRefusal}
-use Rattle.sheet.specs.Compose.{missing, Task, composeCase, chosenNext, composedTo, over, Leaves, choiceRefusal, Ready}
+use Rattle.sheet.specs.Place.{placedSamples, Fits}
+use Rattle.sheet.specs.Compose.{missing, Task, composeCase, chosenNext, chosenBlock, composedNext, composedTo, over, Leaves, choiceRefusal, Ready}
 use Rattle.sheet.specs.declared.Sheet.{Sheet}
-use Rattle.sheet.proofs.StateLaws.{next-lies}
-use Rattle.sheet.proofs.ComposeLaws.{choose-refusal, chosen-placed}
+use Rattle.sheet.proofs.ComposeLaws.{choose-refusal}
 use Rattle.sheet.proofs.TurnLaws.{after-end, open-after, Going}
 
 -- ---- what holds in a turn
-
--- a record yet missing has a place in a lent slice with room for all of them
-pub room : {k missed lent₀ lent : ℕ} → k < missed → missed ≤ lent₀ → lent ≡ lent₀ → k < lent
-room h l e = omega arith
 
 -- the state has a block to place, and what is lent fits it
 pub record Turn (S : Sheet) (T : Task) (state : Sheet) (samples : List ℕ) : Type 0 where
@@ -42,13 +34,11 @@ pub record Turn (S : Sheet) (T : Task) (state : Sheet) (samples : List ℕ) : Ty
   pub refusal : choiceRefusal state T ≡ choiceRefusal S T
 
 pub turn :
-    (S : Sheet) (T : Task) (samples0 kinds0 entries0 : List ℕ) (first0 second0 : List ℤ)
-    → Ready S T (length samples0) (length kinds0) (length entries0) (length first0) (length second0)
-    → {k : ℕ} {state : Sheet} {samples kinds entries : List ℕ} {first second : List ℤ}
-    → Going S T samples0 kinds0 entries0 first0 second0 k state samples kinds entries first second
+    (S : Sheet) (T : Task) (samples0 : List ℕ) (records0 : List (List ℤ)) → Ready S T (length samples0) (length records0)
+    → {k : ℕ} {state : Sheet} {samples : List ℕ} {records : List (List ℤ)} → Going S T samples0 records0 k state samples records
     → k < missing S → length samples ≡ length samples0 → Turn S T state samples
 unfolding choiceRefusal
-turn S T samples0 kinds0 entries0 first0 second0 ready {k} {state} {samples} going more same =
+turn S T samples0 records0 ready {k} {state} {samples} going more same =
     record {
       same-size = ap (λ (u : Sheet). u .n) (going .at-k);
       is-open = open-after S k (ready .is-open) more (going .at-k);
@@ -66,17 +56,9 @@ turn S T samples0 kinds0 entries0 first0 second0 ready {k} {state} {samples} goi
     }
 
 module _ {S : Sheet} {T : Task} {state : Sheet} {samples : List ℕ} (t : Turn S T state samples) where
-  -- the block lies inside all that is lent, so that the choice is made of its own samples
-  pub turn-case :
-      blockCase (state .n) (state .width) (state .placed) (T .material .list) (T .material .count) samples (T .original) (T .material .table) (T .reach) (T .material .texture)
-      ≡ composeCase state T samples
-  turn-case =
-      case-inside (state .n) (state .width) (state .placed) (T .material .list) (T .material .count) samples (T .original) (T .material .table) (T .reach) (T .material .texture)
-      (next-lies state (t .is-open) (t .lengths .whole))
-      (next-lies state (t .is-open) (t .original))
-      (λ lit.
-      next-lies state (t .is-open)
-      (⊎-elim (λ e. absurd (omega (arith, ltb-true 0 (length (T .material .texture)) lit))) (λ e. e) (t .lengths .optional)))
+  -- what is lent fits the state
+  pub turn-fits : Fits state (T .material) (length samples)
+  turn-fits = record { is-open = t .is-open; lengths = t .lengths }
 
   -- the choice for the block is refused where composing is
   turn-refusal : chooseRefusal (composeCase state T samples) ≡ choiceRefusal S T
@@ -88,6 +70,13 @@ module _ {S : Sheet} {T : Task} {state : Sheet} {samples : List ℕ} (t : Turn S
   turn-refused {number} e =
       let m = refused-means (chooseRefusal (composeCase state T samples)) number (chosen (composeCase state T samples)) (sym e) in
       (m .0 ∙ turn-refusal, λ z. m .1 (sym (m .0) ∙ z))
+
+  -- and then nothing is drawn
+  pub turn-kept : {number : ℕ} {u : List ℕ} → refused number ≡ chooseAnswer (composeCase state T samples) → u ≡ composedNext state T samples → u ≡ samples
+  unfolding chooseAnswer chosenBlock
+  turn-kept {number} e h =
+      let m = refused-means (chooseRefusal (composeCase state T samples)) number (chosen (composeCase state T samples)) (sym e) in
+      h ∙ sym (lent-refused (chooseRefusal (composeCase state T samples)) _ samples (m .1))
 
   -- or its record is chosen, and `place` does not refuse it
   module _ {r : Record} {cost : ℕ} (e : given (r, cost) ≡ chooseAnswer (composeCase state T samples)) where
@@ -101,27 +90,23 @@ module _ {S : Sheet} {T : Task} {state : Sheet} {samples : List ℕ} (t : Turn S
     pub turn-chosen : r ≡ chosenNext state T samples
     turn-chosen = sym (ap (λ (p : Record × ℕ). p .0) (turn-means .1))
 
-    pub turn-placed : placeRefusal state (length samples) (T .material) r ≡ 0
-    turn-placed =
-        rw turn-chosen
-        (chosen-placed state T samples (t .is-open) (t .lengths .inside) (t .lengths .few) (t .sound) (t .refusal ∙ turn-none) (t .lengths))
+    pub turn-painted : {u : List ℕ} → u ≡ composedNext state T samples → u ≡ placedSamples state (T .material) samples r
+    unfolding chosenBlock placedSamples
+    turn-painted h = rw turn-chosen (rw (turn-means .0) at h)
 
 -- ---- the ends of the loop
 
-module _ (S : Sheet) (T : Task) (samples0 kinds0 entries0 : List ℕ) (first0 second0 : List ℤ) {k : ℕ} {state : Sheet} {samples kinds entries : List ℕ} {first second : List ℤ} (going : Going S T samples0 kinds0 entries0 first0 second0 k state samples kinds entries first second) where
+module _ (S : Sheet) (T : Task) (samples0 : List ℕ) (records0 : List (List ℤ)) {k : ℕ} {state : Sheet} {samples : List ℕ} {records : List (List ℤ)} (going : Going S T samples0 records0 k state samples records) where
   -- a refusal comes at the first block, when nothing is altered
   pub left-refused :
       (choiceRefusal S T ≡ 0 → ⊥)
-      → Leaves (choiceRefusal S T) S T samples0 kinds0 entries0 first0 second0 samples kinds entries first second
+      → Leaves (choiceRefusal S T) S T samples0 samples records0 records
   unfolding composedTo over listOf
   left-refused h =
       let z : k ≡ 0 = ⊎-elim (λ e. e) (λ e. absurd (h e)) (going .begun) in
       record {
         samples-are = (rw z at (going .painted)) ∙ lent-refused (choiceRefusal S T) _ samples0 h;
-        kinds-are = (rw z at (going .kinds-are)) ∙ lent-refused (choiceRefusal S T) _ kinds0 h;
-        entries-are = (rw z at (going .entries-are)) ∙ lent-refused (choiceRefusal S T) _ entries0 h;
-        first-are = (rw z at (going .first-are)) ∙ lent-refused (choiceRefusal S T) _ first0 h;
-        second-are = (rw z at (going .second-are)) ∙ lent-refused (choiceRefusal S T) _ second0 h;
+        records-are = (rw z at (going .records-are)) ∙ lent-refused (choiceRefusal S T) _ records0 h;
       }
 
   -- all blocks are composed
@@ -129,14 +114,11 @@ module _ (S : Sheet) (T : Task) (samples0 kinds0 entries0 : List ℕ) (first0 se
     pub end-none : choiceRefusal S T ≡ 0
     end-none = ⊎-elim (λ e. absurd (omega arith)) (λ e. e) (going .begun)
 
-    pub left-all : Leaves (choiceRefusal S T) S T samples0 kinds0 entries0 first0 second0 samples kinds entries first second
+    pub left-all : Leaves (choiceRefusal S T) S T samples0 samples records0 records
     left-all =
         record {
           samples-are = (rw all at (going .painted)) ∙ lent-given (choiceRefusal S T) _ samples0 end-none;
-          kinds-are = (rw all at (going .kinds-are)) ∙ lent-given (choiceRefusal S T) _ kinds0 end-none;
-          entries-are = (rw all at (going .entries-are)) ∙ lent-given (choiceRefusal S T) _ entries0 end-none;
-          first-are = (rw all at (going .first-are)) ∙ lent-given (choiceRefusal S T) _ first0 end-none;
-          second-are = (rw all at (going .second-are)) ∙ lent-given (choiceRefusal S T) _ second0 end-none;
+          records-are = (rw all at (going .records-are)) ∙ lent-given (choiceRefusal S T) _ records0 end-none;
         }
 
     told : Sheet → ℕ → Answer (Sheet × ℕ)

@@ -1,4 +1,4 @@
--- The loop that composes, turn by turn. Assumes nothing.
+-- The loop that composes, turn by turn.
 use Prim.Native.Nat.{ℕ, suc, _+_, _-_, _≤_, _<_}
 use mathlib.Core.List.{List}
 use mathlib.Core.Logic.{_⊎_, inl, inr}
@@ -11,7 +11,8 @@ use lib.ListN.{length, getD, set, drop}
 use lib.Seq.{drop-cons, set-at, append-snoc}
 use Rattle.arith.specs.Lists.{listOf}
 use Rattle.arith.proofs.ListLaws.{length-listOf}
-use Rattle.choice.specs.Record.{Record}
+use Rattle.record.specs.declared.Record.{Record}
+use Rattle.record.specs.Lent.{fieldsOf}
 use Rattle.sheet.specs.State.{stateOf, after, blocksOf, finished, Open}
 use Rattle.sheet.specs.Place.{placedSamples}
 use Rattle.sheet.specs.Compose.{missing, Task, chosenNext, composedTo, composedRecord, over, choiceRefusal}
@@ -68,46 +69,29 @@ composed-more S T s k p q e h = rw add-one (rw (e, p, q) at h)
 -- ---- the loop's invariant
 
 -- k blocks are composed: what the loop holds, from what it began with (the names that end in 0)
-pub record Going (S : Sheet) (T : Task) (samples0 kinds0 entries0 : List ℕ) (first0 second0 : List ℤ) (k : ℕ) (state : Sheet) (samples kinds entries : List ℕ) (first second : List ℤ) : Type 0 where
+pub record Going (S : Sheet) (T : Task) (samples0 : List ℕ) (records0 : List (List ℤ)) (k : ℕ) (state : Sheet) (samples : List ℕ) (records : List (List ℤ)) : Type 0 where
   pub at-k : state ≡ after k S
   pub painted : samples ≡ composedTo S T samples0 k
-  pub kinds-are : kinds ≡ over k (λ i. composedRecord S T samples0 i .kind) kinds0
-  pub entries-are : entries ≡ over k (λ i. composedRecord S T samples0 i .entry) entries0
-  pub first-are : first ≡ over k (λ i. composedRecord S T samples0 i .off0) first0
-  pub second-are : second ≡ over k (λ i. composedRecord S T samples0 i .off1) second0
+  pub records-are : records ≡ over k (λ i. fieldsOf (composedRecord S T samples0 i)) records0
   pub begun : (k ≡ 0) ⊎ (choiceRefusal S T ≡ 0)
 
-module _ (S : Sheet) (T : Task) (samples0 kinds0 entries0 : List ℕ) (first0 second0 : List ℤ) where
+module _ (S : Sheet) (T : Task) (samples0 : List ℕ) (records0 : List (List ℤ)) where
   -- before the first block
-  pub going-none : Going S T samples0 kinds0 entries0 first0 second0 0 S samples0 kinds0 entries0 first0 second0
+  pub going-none : Going S T samples0 records0 0 S samples0 records0
   unfolding composedTo
-  going-none =
-      record {
-        at-k = after-none S;
-        painted = refl;
-        kinds-are = over-none _ kinds0;
-        entries-are = over-none _ entries0;
-        first-are = over-none _ first0;
-        second-are = over-none _ second0;
-        begun = inl refl;
-      }
+  going-none = record { at-k = after-none S; painted = refl; records-are = over-none _ records0; begun = inl refl }
 
   -- one block more: its record r is chosen, placed and stored
   pub going-more :
-      {k : ℕ} {state next : Sheet} {samples painted kinds kinds′ entries entries′ : List ℕ} {first first′ second second′ : List ℤ} (r : Record)
-      → Going S T samples0 kinds0 entries0 first0 second0 k state samples kinds entries first second
-      → k < length kinds0 → k < length entries0 → k < length first0 → k < length second0
-      → choiceRefusal S T ≡ 0 → r ≡ chosenNext state T samples → next ≡ after 1 state → painted ≡ placedSamples state (T .material) samples r
-      → kinds′ ≡ set kinds k (r .kind) → entries′ ≡ set entries k (r .entry) → first′ ≡ set first k (r .off0) → second′ ≡ set second k (r .off1)
-      → Going S T samples0 kinds0 entries0 first0 second0 (k + 1) next painted kinds′ entries′ first′ second′
-  going-more {k} {state} {samples = samples} r g hk he hf hs none chosen-r e p qk qe qf qs =
+      {k : ℕ} {state next : Sheet} {samples painted : List ℕ} {records records′ : List (List ℤ)} (r : Record)
+      → Going S T samples0 records0 k state samples records → k < length records0 → choiceRefusal S T ≡ 0
+      → r ≡ chosenNext state T samples → next ≡ after 1 state → painted ≡ placedSamples state (T .material) samples r
+      → records′ ≡ set records k (fieldsOf r) → Going S T samples0 records0 (k + 1) next painted records′
+  going-more {k} {state} {samples = samples} r g room none chosen-r e p q =
       let c : r ≡ composedRecord S T samples0 k = rw (g .at-k, g .painted) at chosen-r in
       record {
         at-k = after-more S k (g .at-k) e;
         painted = composed-more S T samples0 k (g .at-k) (g .painted) chosen-r p;
-        kinds-are = qk ∙ over-more _ kinds0 k (g .kinds-are) (ap (λ (x : Record). x .kind) c) hk;
-        entries-are = qe ∙ over-more _ entries0 k (g .entries-are) (ap (λ (x : Record). x .entry) c) he;
-        first-are = qf ∙ over-more _ first0 k (g .first-are) (ap (λ (x : Record). x .off0) c) hf;
-        second-are = qs ∙ over-more _ second0 k (g .second-are) (ap (λ (x : Record). x .off1) c) hs;
+        records-are = q ∙ over-more _ records0 k (g .records-are) (ap fieldsOf c) room;
         begun = inr none;
       }

@@ -1,22 +1,25 @@
--- Document 01, "Sheet": composing, which chooses and places every block still missing. Assumes nothing.
+-- Document 01, "Sheet": composing, which chooses and places every block still missing.
 use Prim.Native.Nat.{ℕ, zero, suc, _-_, _≤_}
 use mathlib.Core.Path.{_≡_}
-use mathlib.Core.Bool.{Bool, true, _&&_, _||_}
+use mathlib.Core.Bool.{Bool, true, _&&_}
 use mathlib.Core.List.{List, _++_}
-use lib.Dec.{eqb, leb, ltb}
+use lib.Dec.{eqb, leb}
 use lib.IntN.{ℤ}
 use lib.ListN.{length, drop}
-use Rattle.arith.specs.Checks.{unless, Answer, answer, lent}
+use Rattle.arith.specs.Checks.{refusal, Answer, answer, lent}
 use Rattle.arith.specs.Lists.{listOf}
 use Rattle.depth_table.specs.Table.{tableOk}
-use Rattle.choice_checks.specs.Case.{Case}
-use Rattle.choice_checks.specs.Refusal.{wordsOk}
-use Rattle.choice.specs.Record.{Record}
+use Rattle.choice.specs.Case.{Case}
+use Rattle.choice.specs.Refusal.{pickChecks, chooseRefusal}
+use Rattle.record.specs.declared.Record.{Record}
+use Rattle.record.specs.Lent.{fieldsOf}
 use Rattle.choice.specs.Search.{chosen}
-use Rattle.sheet_blocks.specs.Samples.{cut}
+use Rattle.choice.specs.Record.{predictionOf}
+use Rattle.sheet_grid.specs.Samples.{written, cut}
 use Rattle.sheet.specs.State.{after, area, blocksOf, finished, nextX, nextY, lengthsOk, openRefusal, Open, Lengths}
-use Rattle.sheet.specs.Place.{Material, nextCase, placedSamples}
+use Rattle.sheet.specs.Place.{Material, materialOf, nextCase, placedSamples}
 use Rattle.pattern.specs.Answer.{textured}
+use Rattle.pattern.specs.Words.{patternsOf}
 use Rattle.sheet.specs.declared.Sheet.{Sheet}
 
 -- the number of blocks still missing
@@ -32,6 +35,10 @@ pub record Task : Type 0 where
 abbrev pub taskOf : Material → List ℕ → ℕ → Task
 taskOf material original reach = record { material = material; original = original; reach = reach }
 
+-- the same from what is lent to a call: the words of the list, its count, table, texture, original and reach
+abbrev pub lentTask : Sheet → List ℕ → ℕ → List ℕ → List ℕ → List ℕ → ℕ → Task
+lentTask S words count table texture original reach = taskOf (materialOf (patternsOf (S .n) words) count table texture) original reach
+
 -- the next block as a case of the choice: its neighbours from the samples s, its own part of original and texture
 abbrev pub composeCase : Sheet → Task → List ℕ → Case
 composeCase S T s = nextCase S (T .material) (cut (S .n) (S .width) (nextX S) (nextY S) (T .original)) (T .reach) s
@@ -39,6 +46,14 @@ composeCase S T s = nextCase S (T .material) (cut (S .n) (S .width) (nextX S) (n
 -- the record chosen for it
 abbrev pub chosenNext : Sheet → Task → List ℕ → Record
 chosenNext S T s = chosen (composeCase S T s) .0
+
+-- the samples with the chosen record of a case drawn at (x, y); as they were where the choice is refused
+unfoldable pub chosenBlock : ℕ → ℕ → ℕ → ℕ → Case → List ℕ → List ℕ
+chosenBlock n w x y C s = lent (chooseRefusal C) (written n w x y (predictionOf C (chosen C .0)) s) s
+
+-- the samples with the next block composed
+abbrev pub composedNext : Sheet → Task → List ℕ → List ℕ
+composedNext S T s = chosenBlock (S .n) (S .width) (nextX S) (nextY S) (composeCase S T s) s
 
 -- the samples after k blocks more; the neighbours of each block are read when the one before it is placed
 unfoldable pub composedTo : Sheet → Task → List ℕ → ℕ → List ℕ
@@ -55,51 +70,46 @@ over m f old = listOf f m ++ drop m old
 
 -- ---- the call
 
--- the samples and a field of the records afterwards, by what the checks say: a refusal alters nothing, and the first block placed takes
--- the first record
+-- the samples and the records afterwards, by what the checks say: a refusal alters nothing, and the first block placed takes the first
+-- record
 abbrev pub samplesBy : ℕ → Sheet → List ℕ → Task → List ℕ
 samplesBy refusal S s T = lent refusal (composedTo S T s (missing S)) s
 
-abbrev pub fieldBy : {A : Type 0} → ℕ → (Record → A) → Sheet → List ℕ → Task → List A → List A
-fieldBy refusal field S s T old = lent refusal (over (missing S) (λ k. field (composedRecord S T s k)) old) old
+abbrev pub recordsBy : ℕ → Sheet → List ℕ → Task → List (List ℤ) → List (List ℤ)
+recordsBy refusal S s T old = lent refusal (over (missing S) (λ k. fieldsOf (composedRecord S T s k)) old) old
 
 -- what stands in the lent slices afterwards (the names that end in 1), from what stood there before
-pub record Leaves (refusal : ℕ) (S : Sheet) (T : Task) (samples0 kinds0 entries0 : List ℕ) (first0 second0 : List ℤ) (samples1 kinds1 entries1 : List ℕ) (first1 second1 : List ℤ) : Type 0 where
+pub record Leaves (refusal : ℕ) (S : Sheet) (T : Task) (samples0 samples1 : List ℕ) (records0 records1 : List (List ℤ)) : Type 0 where
   pub samples-are : samples1 ≡ samplesBy refusal S samples0 T
-  pub kinds-are : kinds1 ≡ fieldBy refusal (λ r. r .kind) S samples0 T kinds0
-  pub entries-are : entries1 ≡ fieldBy refusal (λ r. r .entry) S samples0 T entries0
-  pub first-are : first1 ≡ fieldBy refusal (λ r. r .off0) S samples0 T first0
-  pub second-are : second1 ≡ fieldBy refusal (λ r. r .off1) S samples0 T second0
+  pub records-are : records1 ≡ recordsBy refusal S samples0 T records0
 
 -- lengths as in placing, an original of as many samples as the sheet, and no fewer records than blocks
 unfoldable pub composeLengthsOk : Sheet → ℕ → ℕ → ℕ → ℕ → ℕ → ℕ → Bool
 composeLengthsOk S samples patterns count texture original records =
     lengthsOk S samples patterns count texture && (eqb original (area S) && leb (blocksOf S) records)
 
--- 5: a word below the count; 4: the reach; 10: no wedgelet and no texture
-unfoldable pub choiceRefusal : Sheet → Task → ℕ
-choiceRefusal S T =
-    unless (wordsOk (S .n) (T .material .list) (T .material .count)) 5
-    (unless (leb (T .reach) 255) 4
-    (unless (ltb 0 (T .material .count) || textured (T .material .texture)) 10 0))
+-- 5, 4 and 10, as in the choice for a block
+abbrev pub choiceChecks : Sheet → Task → List (Bool × ℕ)
+choiceChecks S T = let M = T .material in pickChecks (S .n) (M .list) (M .count) (T .reach) (textured (M .texture))
 
--- what the checks before those leave: a block to place, lengths and count, the table, and room for a record of each missing block
-pub record Ready (S : Sheet) (T : Task) (samples kinds entries offs0 offs1 : ℕ) : Type 0 where
+unfoldable pub choiceRefusal : Sheet → Task → ℕ
+choiceRefusal S T = refusal (choiceChecks S T) 0
+
+-- what the checks before those leave: a block to place, what is lent fits, the table, and a record for each block
+pub record Ready (S : Sheet) (T : Task) (samples records : ℕ) : Type 0 where
   pub is-open : Open S
   pub lengths : Lengths S samples (length (T .material .list)) (T .material .count) (length (T .material .texture))
   pub same : length (T .original) ≡ area S
   pub sound : tableOk (T .material .table) ≡ true
-  pub kinds-room : missing S ≤ kinds
-  pub entries-room : missing S ≤ entries
-  pub offs0-room : missing S ≤ offs0
-  pub offs1-room : missing S ≤ offs1
+  pub room : blocksOf S ≤ records
 
 -- 1, 2, 8, 23, 20, 3, then 5, 4, 10; samples and records are the lengths of what is lent
 unfoldable pub composeRefusal : Sheet → ℕ → Task → ℕ → ℕ
 composeRefusal S samples T records =
+    let M = T .material in
     openRefusal S
-    (composeLengthsOk S samples (length (T .material .list)) (T .material .count) (length (T .material .texture)) (length (T .original)) records)
-    (T .material .table)
+    (composeLengthsOk S samples (length (M .list)) (M .count) (length (M .texture)) (length (T .original)) records)
+    (M .table)
     (choiceRefusal S T)
 
 -- `compose` answers the finished state and the number of records written
@@ -110,6 +120,6 @@ composeAnswer S s T records = answer (composeRefusal S (length s) T records) (fi
 unfoldable pub composeAfter : Sheet → List ℕ → Task → ℕ → List ℕ
 composeAfter S s T records = samplesBy (composeRefusal S (length s) T records) S s T
 
--- a field of the lent records afterwards
-unfoldable pub composeField : {A : Type 0} → (Record → A) → Sheet → List ℕ → Task → ℕ → List A → List A
-composeField field S s T records old = fieldBy (composeRefusal S (length s) T records) field S s T old
+-- and the lent records
+unfoldable pub composeRecords : Sheet → List ℕ → Task → List (List ℤ) → List (List ℤ)
+composeRecords S s T old = recordsBy (composeRefusal S (length s) T (length old)) S s T old

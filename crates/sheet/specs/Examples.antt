@@ -1,4 +1,4 @@
--- Worked examples of the definitions. Assumes nothing.
+-- Worked examples of the definitions.
 use Prim.Native.Nat.{ℕ}
 use mathlib.Core.Path.{_≡_, refl}
 use mathlib.Core.List.{List, [], _∷_, _++_}
@@ -10,17 +10,18 @@ use Rattle.arith.specs.Lists.{listOf}
 use Rattle.arith.specs.Sum.{sumTo}
 use Rattle.depth_table.specs.Examples.{sampleTable}
 use Rattle.depth_table.specs.Table.{bytes, rising, tableOk, nearestTo, indexOf}
-use Rattle.sides.specs.Sides.{vertEdge, horEdge, ltBy, brBy, lt, br, sideDepth}
-use Rattle.offset.specs.Offset.{offsetOk, levelOf}
+use Rattle.prediction.specs.Sides.{vertEdge, horEdge, ltBy, brBy, lt, br, sideDepth}
+use Rattle.depth_table.specs.Offset.{offsetOk, levelOf}
 use Rattle.prediction.specs.Block.{sampleOf, predicted}
-use Rattle.side_cost.specs.Cost.{sideCost}
-use Rattle.choice.specs.Record.{Record}
+use Rattle.choice.specs.Cost.{sideCost}
+use Rattle.record.specs.declared.Record.{Record}
 use Rattle.choice.specs.Search.{bestCost, bestPattern, chosen}
-use Rattle.sheet_neighbours.specs.Neighbours.{firstPresent, substitutedBy, substituted, walked}
-use Rattle.sheet_blocks.specs.Samples.{written, cut}
-use Rattle.sheet_checks.specs.Checks.{lengthsOkBy, openRefusalBy}
+use Rattle.sheet_grid.specs.Neighbours.{firstPresent, substitutedBy, substituted, walked}
+use Rattle.sheet_grid.specs.Samples.{written, cut}
+use Rattle.sheet.specs.Checks.{lengthsOkBy, startRefusalBy}
 use Rattle.sheet.specs.State.{stateOf}
-use Rattle.record_checks.specs.Meaning.{recordOf, recordRefusal}
+use Rattle.record.specs.Meaning.{recordRefusal}
+use Rattle.record.specs.Record.{recordOf}
 use Rattle.sheet.specs.Place.{Material, materialOf, placedSamples, placeRefusal}
 use Rattle.sheet.specs.Compose.{Task, taskOf, composedTo, composedRecord}
 use Rattle.sheet.specs.declared.Sheet.{Sheet}
@@ -41,7 +42,8 @@ sampleRecord = recordOf 0 0 (negsuc 0) (pos 1)
 -- the samples that `show` prints
 pub sample-placed :
     placedSamples (oneBlock 0) sampleMaterial (replicate 16 0) sampleRecord ≡ replicate 4 100 ++ replicate 12 140
-unfolding clamped listOf nearestTo indexOf vertEdge horEdge ltBy brBy lt br sideDepth levelOf sampleOf predicted firstPresent substitutedBy substituted walked written placedSamples
+unfolding clamped listOf nearestTo indexOf vertEdge horEdge ltBy brBy lt br sideDepth levelOf sampleOf predicted
+    firstPresent substitutedBy substituted walked written placedSamples
 sample-placed = refl
 
 -- the checks of placing in order, each with the later ones failing too
@@ -61,7 +63,7 @@ pub record PlaceRefusals : Type 0 where
   pub none : placeRefusal (oneBlock 0) 16 sampleMaterial sampleRecord ≡ 0
 
 pub place-refusals : PlaceRefusals
-unfolding bytes rising tableOk offsetOk lengthsOkBy openRefusalBy recordRefusal placeRefusal
+unfolding bytes rising tableOk offsetOk lengthsOkBy startRefusalBy recordRefusal placeRefusal
 place-refusals =
     record {
       size = refl;
@@ -98,5 +100,6 @@ pub record Composing : Type 0 where
   pub composed : composedTo (stateOf 4 8 4 0) sampleTask (replicate 32 0) 2 ≡ twoBlocks
 
 pub composing : Composing
-unfolding clamped listOf nearestTo indexOf vertEdge horEdge ltBy brBy lt br sideDepth levelOf sampleOf predicted leastTo sumTo sideCost bestCost bestPattern chosen firstPresent substitutedBy substituted walked written cut placedSamples composedTo
+unfolding clamped listOf nearestTo indexOf vertEdge horEdge ltBy brBy lt br sideDepth levelOf sampleOf predicted
+    leastTo sumTo sideCost bestCost bestPattern chosen firstPresent substitutedBy substituted walked written cut placedSamples composedTo
 composing = record { first = refl; second = refl; composed = refl }

@@ -5,3 +5,4 @@ pub mod Compose
 pub mod Told
 pub mod Laws
 pub mod Examples
+pub mod Checks

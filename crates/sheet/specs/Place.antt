@@ -1,21 +1,22 @@
--- Document 01, "Sheet": placing a record. Assumes nothing.
-use Prim.Native.Nat.{ℕ, zero, suc, _<_}
+-- Document 01, "Sheet": placing a record.
+use Prim.Native.Nat.{ℕ, zero, suc, _*_, _<_}
 use mathlib.Core.Path.{_≡_}
 use mathlib.Core.Bool.{true, cond}
 use mathlib.Core.List.{List, []}
-use lib.IntN.{ℤ}
+use mathlib.Core.Logic.{_⊎_}
 use lib.ListN.{length}
 use Rattle.arith.specs.Checks.{Answer, answer, lent}
-use Rattle.depth_table.specs.Table.{tableOk}
-use Rattle.pattern.specs.Size.{wordOk}
+use Rattle.pattern.specs.Size.{sizeOk}
 use Rattle.pattern.specs.Answer.{textured}
-use Rattle.offset.specs.Offset.{offsetOk}
-use Rattle.choice_checks.specs.Case.{Case, caseOf}
-use Rattle.choice.specs.Record.{Record, patternBy, predictionOf}
-use Rattle.sheet_neighbours.specs.Neighbours.{neighbours}
-use Rattle.sheet_blocks.specs.Samples.{written, cut}
-use Rattle.sheet.specs.State.{after, area, nextX, nextY, lengthsOk, openRefusal}
-use Rattle.record_checks.specs.Meaning.{recordRefusal}
+use Rattle.sheet_grid.specs.Grid.{Inside}
+use Rattle.choice.specs.Case.{Case, caseOf}
+use Rattle.choice.specs.Record.{predictionOf}
+use Rattle.record.specs.declared.Record.{Record}
+use Rattle.sheet_grid.specs.Neighbours.{neighbours}
+use Rattle.sheet_grid.specs.Samples.{written, cut}
+use Rattle.sheet.specs.State.{after, nextX, nextY, lengthsOk, openRefusal, Open, Lengths}
+use Rattle.sheet.specs.Checks.{tableRefusal}
+use Rattle.record.specs.Meaning.{recordRefusal}
 use Rattle.sheet.specs.declared.Sheet.{Sheet}
 
 -- what records are placed with: the wedgelet list (document 01: the edge list) and its count, the depth table, and texture of the
@@ -41,25 +42,21 @@ nextCase S M original reach s =
 abbrev pub placeCase : Sheet → Material → List ℕ → Case
 placeCase S M s = nextCase S M [] 0 s
 
--- the pattern of a record for the next block
-abbrev pub nextWord : Sheet → List ℕ → List ℕ → ℕ → ℕ → ℕ
-nextWord S list texture kind entry = patternBy (placeCase S (materialOf list 0 [] texture) []) kind entry
-
--- a record's kind and entry name a pattern: a word that the list has, or the contour of lent texture
-pub record Named (S : Sheet) (list texture : List ℕ) (kind entry : ℕ) : Type 0 where
-  pub listed : kind ≡ 0 → entry < length list
-  pub lit : (kind ≡ 0 → ⊥) → (textured texture ≡ true) × (length texture ≡ area S)
+-- what a record draws: the predicted block of its pattern and offsets, for the next place, from the sheet so far
+abbrev pub drawn : Sheet → Material → List ℕ → Record → List ℕ
+drawn S M s r = predictionOf (placeCase S M s) r
 
 -- the samples with the record's predicted block in the next place
 unfoldable pub placedSamples : Sheet → Material → List ℕ → Record → List ℕ
-placedSamples S M s r = written (S .n) (S .width) (nextX S) (nextY S) (predictionOf (placeCase S M s) r) s
+placedSamples S M s r = written (S .n) (S .width) (nextX S) (nextY S) (drawn S M s r) s
 
--- a pattern, a table and offsets that prediction takes
-pub record Predictable (n word : ℕ) (t : List ℕ) (off0 off1 : ℤ) : Type 0 where
-  pub fits : wordOk n word ≡ true
-  pub sound : tableOk t ≡ true
-  pub first : offsetOk off0 ≡ true
-  pub second : offsetOk off1 ≡ true
+-- 3, the table, then the record's 7, 21, 6, 5, 4: of a record that is to be drawn from a case's list, table and texture
+unfoldable pub drawRefusal : Case → Record → ℕ
+drawRefusal C r = tableRefusal (C .table) (recordRefusal (C .n) (C .list) (C .count) (textured (C .texture)) r)
+
+-- and of one that is to be placed
+unfoldable pub materialRefusal : Sheet → Material → Record → ℕ
+materialRefusal S M r = tableRefusal (M .table) (recordRefusal (S .n) (M .list) (M .count) (textured (M .texture)) r)
 
 -- 1, 2, 8, 23, 20, 3, then the record's 7, 21, 6, 5, 4; samples is the length of the lent samples
 unfoldable pub placeRefusal : Sheet → ℕ → Material → Record → ℕ
@@ -79,3 +76,24 @@ placeAfter S s M r = lent (placeRefusal S (length s) M r) (placedSamples S M s r
 unfoldable pub placedInTurn : Sheet → Material → (ℕ → Record) → List ℕ → ℕ → List ℕ
 placedInTurn S M records s zero = s
 placedInTurn S M records s (suc k) = placedSamples (after k S) M (placedInTurn S M records s k) (records k)
+
+-- ---- what the steps are given
+
+-- a block of an allowed size that lies inside the samples, with its neighbours
+pub record Site (n w samples x y neighbours : ℕ) : Type 0 where
+  pub size : sizeOk n ≡ true
+  pub inside : Inside n w samples x y
+  pub bordered : neighbours ≡ 4 * n
+
+-- a block's own texture: none, or as many samples as it has
+abbrev pub Lit : ℕ → ℕ → Type 0
+Lit n texture = (texture ≡ 0) ⊎ (texture ≡ n * n)
+
+-- the block at (x, y) lies inside the sheet's texture, if any is lent
+abbrev pub BlockLit : ℕ → ℕ → ℕ → ℕ → ℕ → Type 0
+BlockLit n w texture x y = 0 < texture → Inside n w texture x y
+
+-- a state that has a block to place, and what is lent fits it
+pub record Fits (S : Sheet) (M : Material) (samples : ℕ) : Type 0 where
+  pub is-open : Open S
+  pub lengths : Lengths S samples (length (M .list)) (M .count) (length (M .texture))

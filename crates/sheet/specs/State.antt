@@ -1,13 +1,13 @@
--- Document 01, "Sheet": the state of a sheet, and what every call on one checks of it. Assumes nothing.
+-- Document 01, "Sheet": the state of a sheet, and what every call on one checks of it.
 use Prim.Native.Nat.{ℕ, _+_, _*_, _≤_, _<_}
 use mathlib.Core.Path.{_≡_}
 use mathlib.Core.Bool.{Bool, true}
 use mathlib.Core.List.{List}
 use mathlib.Core.Logic.{_⊎_}
 use Rattle.arith.specs.Checks.{Answer, answer}
-use Rattle.pattern.specs.Size.{sizeOk}
-use Rattle.sheet_blocks.specs.Grid.{longest, blocks, blockX, blockY}
-use Rattle.sheet_checks.specs.Checks.{sidesOkBy, newRefusal, lengthsOkBy, stateRefusalBy, openRefusalBy}
+use Rattle.pattern.specs.Size.{greatestSize, sizeOk}
+use Rattle.sheet_grid.specs.Grid.{longest, blocks, blockX, blockY}
+use Rattle.sheet.specs.Checks.{sidesOkBy, newRefusal, lengthsOkBy, stateRefusalBy, startRefusalBy, tableRefusal}
 use Rattle.sheet.specs.declared.Sheet.{Sheet}
 
 -- The state is n, width, height and the number of blocks placed.
@@ -55,22 +55,26 @@ lengthsOk S samples patterns count texture = lengthsOkBy (S .width) (S .height) 
 unfoldable pub stateRefusal : Sheet → Bool → ℕ → ℕ
 stateRefusal S lengths rest = stateRefusalBy (S .n) (S .width) (S .height) (S .placed) lengths rest
 
--- in placing and composing 1, 2, 8, 23, 20, 3, then the rest
+-- in placing and composing 1, 2, 8, 23, 20, then the rest
+abbrev pub startRefusal : Sheet → Bool → ℕ → ℕ
+startRefusal S lengths rest = startRefusalBy (S .n) (S .width) (S .height) (S .placed) lengths rest
+
+-- and 3, the table, before the rest
 abbrev pub openRefusal : Sheet → Bool → List ℕ → ℕ → ℕ
-openRefusal S lengths t rest = openRefusalBy (S .n) (S .width) (S .height) (S .placed) lengths t rest
+openRefusal S lengths t rest = startRefusal S lengths (tableRefusal t rest)
 
 -- what holds of a state that has a block to place
 pub record Open (S : Sheet) : Type 0 where
   pub size : sizeOk (S .n) ≡ true
   pub sides : sidesOk S ≡ true
   pub low : 4 ≤ S .n
-  pub high : S .n ≤ 16
+  pub high : S .n ≤ greatestSize
   pub wide : S .n ≤ S .width
   pub narrow : S .width ≤ longest
   pub short : S .height ≤ longest
   pub missing : S .placed < blocksOf S
 
--- what `lengthsOk` says
+-- what `lengthsOk` says of the lent samples, patterns, count and texture
 pub record Lengths (S : Sheet) (samples patterns count texture : ℕ) : Type 0 where
   pub whole : samples ≡ area S
   pub optional : (texture ≡ 0) ⊎ (texture ≡ area S)

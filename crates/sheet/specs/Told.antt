@@ -1,4 +1,4 @@
--- Document 01's number and values for each case of the code's answers. Assumes nothing.
+-- Document 01's number and values for each case of the code's answers.
 use Prim.Native.Nat.{ℕ}
 use Rattle.arith.specs.Checks.{Answer, refused, given}
 use Rattle.sheet.specs.declared.Sheet.{Sheet}

@@ -1,7 +1,18 @@
 // A sheet of blocks (document 01, "Sheet").
 mod composing;
+mod drawing;
+mod judged;
+mod lent;
+mod neighbours;
 mod placing;
+mod samples;
 mod state;
+
+pub use judged::LONGEST;
+pub use judged::MOST_BLOCKS;
+pub use judged::MOST_SAMPLES;
+pub use judged::new_refusal;
+pub use judged::state_refusal;
 
 // The state of a sheet of width by height samples in blocks of n by n: how many of its blocks are placed.
 pub struct Sheet {

@@ -1,74 +1,115 @@
 // Placing a record.
 ghost use mathlib.Core.Path.{_≡_};
+ghost use mathlib.Core.Bool.{cond};
+ghost use lib.Dec.{ltb};
 ghost use lib.ListN.{length};
-ghost use Rattle.pattern.specs.Words.{patternNumber, patternsOf};
-ghost use Rattle.prediction.specs.Block.{predicted};
-ghost use Rattle.sheet_neighbours.specs.Neighbours.{neighbours};
-ghost use Rattle.sheet_blocks.specs.Samples.{written};
-ghost use Rattle.record_checks.specs.Meaning.{recordOf};
-ghost use Rattle.sheet.specs.State.{after, area, nextX, nextY, Open};
-ghost use Rattle.sheet.specs.Place.{materialOf, Named, Predictable, nextWord, placeAnswer, placeAfter};
+ghost use Prim.Native.Nat.{_*_, _<_};
+ghost use Rattle.arith.specs.Checks.{lent};
+ghost use Rattle.pattern.specs.Size.{greatestSamples};
+ghost use Rattle.pattern.specs.Words.{patternsOf};
+ghost use Rattle.sheet_grid.specs.Samples.{cut, filled};
+ghost use Rattle.sheet.specs.Place.{materialOf, BlockLit, Fits, materialRefusal, placedSamples, placeAnswer, placeAfter};
 ghost use Rattle.sheet.specs.Told.{placeTold};
 use crate::Placed;
 use crate::Sheet;
-use pattern::Pattern;
-use pattern::pattern_at;
-use record_checks::record_refusal;
+use crate::drawing::draw;
+use crate::neighbours::neighbours_of;
+use crate::samples::cut_at;
+use pattern::SAMPLES;
+use record::Record;
+
+// The samples of a block's own texture: as many as the block has, and 0 where no texture is lent.
+pub(crate) fn lent_part(texture: &[u8], block: usize) -> usize
+    ensures { λ r. ⌜ r ≡ cond (ltb 0 (length (now (texture .entry)))) block 0 ⌝ }
+{
+    if texture.len() == 0 { 0 } else { block }
+}
+
+// The texture of the block at (x, y), then 0; all 0 where none is lent.
+pub(crate) fn light_at(texture: &[u8], width: usize, n: usize, x: usize, y: usize) -> [u8; SAMPLES]
+    requires { ⌜ BlockLit n width (length (now texture)) x y ⌝ }
+    ensures { λ r. let light = filled greatestSamples (n * n) (cut n width x y (now (texture .entry))) in
+        ⌜ (0 < length (now (texture .entry)) → r ≡ light) ⌝ }
+{
+    if texture.len() == 0 {
+        return [0u8; SAMPLES];
+    }
+    cut_at(texture, width, n, x, y)
+}
 
 impl Sheet {
-    // Writes the predicted block of a pattern in the next place, and hands the next state back.
-    fn put(mut self, samples: &mut [u8], p: Pattern, table: &[u8], off0: i32, off1: i32) -> Sheet
-        requires { ⌜ (Open self) × (length (now samples) ≡ area self) × (Predictable (self .n) (patternNumber p) (now table) off0 off1) ⌝ }
-        ensures state { λ r. ⌜ r ≡ after 1 self ⌝ }
-        ensures left { λ r. ⌜ now (samples .exit) ≡ written (self .n) (self .width) (nextX self) (nextY self) (predicted (self .n) (patternNumber p) (neighbours (self .n) (self .width) (self .placed) (now (samples .entry))) (now (table .entry)) off0 off1) (now (samples .entry)) ⌝ }
-    {
-        let k = self.placed;
-        sheet_steps::draw(samples, self.n, self.width, k, p, table, off0, off1);
-        self.placed = k + 1;
-        self
-    }
-
-    // The pattern of a record for the next block: the one that the list has at the entry, or the contour of the block's own texture.
-    fn pattern_next(self, list: &[u64], texture: &[u8], kind: u32, entry: u32) -> Pattern
-        requires { ⌜ (Open self) × (Named self (patternsOf (self .n) (now list)) (now texture) kind entry) ⌝ }
-        ensures { λ r. ⌜ patternNumber r ≡ nextWord self (patternsOf (self .n) (now (list .entry))) (now (texture .entry)) kind entry ⌝ }
-    {
-        if kind == 0 {
-            return pattern_at(self.n as usize, list, entry as usize);
-        }
-        sheet_steps::contour_block(texture, self.n, self.width, self.placed)
-    }
-
-    // Places a record: writes its predicted block in the next place and answers the next state, or refuses with 1, 2, 8, 23, 20, 3, 7,
-    // 21, 6, 5 or 4 and writes nothing.
-    pub fn place(
+    // Draws a record in the next place, or answers the number of its refusal: 3, 7, 21, 6, 5 or 4.
+    fn draw_next(
         self,
         samples: &mut [u8],
         list: &[u64],
         count: usize,
         table: &[u8],
         texture: &[u8],
-        kind: u32,
-        entry: u32,
-        off0: i32,
-        off1: i32,
+        r: Record,
+    ) -> u8
+        requires { let M = materialOf (patternsOf (self .n) (now list)) count (now table) (now texture) in
+            ⌜ Fits self M (length (now samples)) ⌝ }
+        ensures number { λ t.
+            let M = materialOf (patternsOf (self .n) (now (list .entry))) count (now (table .entry)) (now (texture .entry)) in
+            ⌜ t ≡ materialRefusal self M r ⌝ }
+        ensures left { λ t.
+            let M = materialOf (patternsOf (self .n) (now (list .entry))) count (now (table .entry)) (now (texture .entry)) in
+            let s = now (samples .entry) in
+            ⌜ now (samples .exit) ≡ lent (materialRefusal self M r) (placedSamples self M s r) s ⌝ }
+    {
+        let n = self.n as usize;
+        let width = self.width as usize;
+        let x = self.next_x();
+        let y = self.next_y();
+        let near = neighbours_of(samples, width, n, x, y);
+        let light = light_at(texture, width, n, x, y);
+        let border = 4 * n;
+        let part = lent_part(texture, n * n);
+        draw(
+            samples,
+            width,
+            n,
+            x,
+            y,
+            &near[..border],
+            list,
+            count,
+            table,
+            &light[..part],
+            r,
+        )
+    }
+
+    // Places a record: writes its predicted block in the next place and answers the next state, or refuses with 1, 2, 8, 23, 20, 3, 7,
+    // 21, 6, 5 or 4 and writes nothing.
+    pub fn place(
+        mut self,
+        samples: &mut [u8],
+        list: &[u64],
+        count: usize,
+        table: &[u8],
+        texture: &[u8],
+        r: Record,
     ) -> Placed
-        ensures answered { λ r. ⌜ placeTold r ≡ placeAnswer self (now (samples .entry)) (materialOf (patternsOf (self .n) (now (list .entry))) count (now (table .entry)) (now (texture .entry))) (recordOf kind entry off0 off1) ⌝ }
-        ensures left { λ r. ⌜ now (samples .exit) ≡ placeAfter self (now (samples .entry)) (materialOf (patternsOf (self .n) (now (list .entry))) count (now (table .entry)) (now (texture .entry))) (recordOf kind entry off0 off1) ⌝ }
+        ensures answered { λ t.
+            let M = materialOf (patternsOf (self .n) (now (list .entry))) count (now (table .entry)) (now (texture .entry)) in
+            ⌜ placeTold t ≡ placeAnswer self (now (samples .entry)) M r ⌝ }
+        ensures left { λ t.
+            let M = materialOf (patternsOf (self .n) (now (list .entry))) count (now (table .entry)) (now (texture .entry)) in
+            ⌜ now (samples .exit) ≡ placeAfter self (now (samples .entry)) M r ⌝ }
     {
         let patterns = self.patterns_lent(list.len());
         let lengths = self.lengths_ok(samples.len(), patterns, count, texture.len());
-        let refusal = self.open_refusal(lengths, table);
+        let refusal = self.open_refusal(lengths, 0);
         if refusal != 0 {
             return Placed::Refused(refusal);
         }
-        let n = self.n as usize;
-        let textured = 0 < texture.len();
-        let number = record_refusal(n, list, count, textured, kind, entry, off0, off1);
+        let number = self.draw_next(samples, list, count, table, texture, r);
         if number != 0 {
             return Placed::Refused(number);
         }
-        let p = self.pattern_next(list, texture, kind, entry);
-        Placed::Next(self.put(samples, p, table, off0, off1))
+        self.placed = self.placed + 1;
+        Placed::Next(self)
     }
 }

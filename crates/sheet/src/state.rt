@@ -1,7 +1,7 @@
 // The state of a sheet, and what is checked of it.
 ghost use mathlib.Core.Path.{_≡_};
 ghost use Rattle.pattern.specs.Words.{wholePatterns};
-ghost use Rattle.sheet.specs.State.{lengthsOk, blocksOf, newAnswer, openRefusal};
+ghost use Rattle.sheet.specs.State.{lengthsOk, blocksOf, newAnswer, startRefusal, nextX, nextY, Open};
 ghost use Rattle.sheet.specs.Told.{newTold};
 use crate::Made;
 use crate::Sheet;
@@ -12,7 +12,7 @@ impl Sheet {
     pub fn new(n: u32, width: u32, height: u32) -> Made
         ensures { λ r. ⌜ newTold r ≡ newAnswer n width height ⌝ }
     {
-        let refusal = sheet_checks::new_refusal(n, width, height);
+        let refusal = crate::judged::new_refusal(n, width, height);
         if refusal != 0 {
             return Made::Refused(refusal);
         }
@@ -28,7 +28,7 @@ impl Sheet {
     pub fn blocks(self) -> u64
         ensures { λ r. ⌜ r ≡ blocksOf self ⌝ }
     {
-        sheet_checks::blocks(self.n, self.width, self.height)
+        crate::judged::blocks(self.n, self.width, self.height)
     }
 
     // The number of whole patterns in so many lent words.
@@ -48,13 +48,31 @@ impl Sheet {
     ) -> bool
         ensures { λ r. ⌜ r ≡ lengthsOk self samples patterns count texture ⌝ }
     {
-        sheet_checks::lengths_ok(self.width, self.height, samples, patterns, count, texture)
+        crate::lent::lengths_ok(self.width, self.height, samples, patterns, count, texture)
     }
 
-    // The refusal of a state that is to have a block to place, with the lengths judged, or of the table; 0 for none.
-    pub(crate) fn open_refusal(self, lengths: bool, table: &[u8]) -> u8
-        ensures { λ r. ⌜ r ≡ openRefusal self lengths (now (table .entry)) 0 ⌝ }
+    // The refusal of a state that is to have a block to place, with the lengths judged, or what the checks after it say.
+    pub(crate) fn open_refusal(self, lengths: bool, rest: u8) -> u8
+        ensures { λ r. ⌜ r ≡ startRefusal self lengths rest ⌝ }
     {
-        sheet_checks::open_refusal(self.n, self.width, self.height, self.placed, lengths, table)
+        crate::judged::open_refusal(self.n, self.width, self.height, self.placed, lengths, rest)
+    }
+
+    // The column of the first sample of the next block.
+    pub(crate) fn next_x(self) -> usize
+        requires { ⌜ Open self ⌝ }
+        ensures { λ r. ⌜ r ≡ nextX self ⌝ }
+    {
+        let across = self.width / self.n;
+        (self.placed % across * self.n) as usize
+    }
+
+    // The row of that sample.
+    pub(crate) fn next_y(self) -> usize
+        requires { ⌜ Open self ⌝ }
+        ensures { λ r. ⌜ r ≡ nextY self ⌝ }
+    {
+        let across = self.width / self.n;
+        (self.placed / across * self.n) as usize
     }
 }

@@ -1,16 +1,30 @@
-// The fields of the vectors, written to standard output.
+// The fields of the answers, written to standard output. What prints answers whether its last bytes were written.
 use libc::STDOUT_FILENO;
-use pattern::Pattern;
+
+// As many records as the greatest sheet has blocks.
+pub(crate) const RECORDS: usize = 1024;
 
 // Bytes as they are.
-pub(crate) fn text(bytes: &[u8]) {
-    io::write_all(STDOUT_FILENO, bytes);
+pub(crate) fn text(bytes: &[u8]) -> bool {
+    io::write_all(STDOUT_FILENO, bytes)
 }
 
 // A space and a decimal number.
-pub(crate) fn number(n: usize) {
+pub(crate) fn number(n: u64) -> bool {
     text(b" ");
-    io::print_decimal(STDOUT_FILENO, n as u64);
+    io::print_decimal(STDOUT_FILENO, n)
+}
+
+// A space, an x and the hexadecimal digits of a word.
+pub(crate) fn word(w: u64) -> bool {
+    text(b" x");
+    io::print_hex(STDOUT_FILENO, w, 1)
+}
+
+// The field `refused` and the refusal number.
+pub(crate) fn refused(r: u8) -> bool {
+    text(b" refused");
+    number(r as u64)
 }
 
 // |z|
@@ -21,63 +35,85 @@ fn magnitude(z: i32) -> u64 {
     z as u64
 }
 
-// A space and an offset, with a minus where it is negative.
-pub(crate) fn offset(z: i32) {
+// A space and a signed number.
+pub(crate) fn signed(z: i32) -> bool {
     if z < 0 {
         text(b" -");
     } else {
         text(b" ");
     }
-    io::print_decimal(STDOUT_FILENO, magnitude(z));
+    io::print_decimal(STDOUT_FILENO, magnitude(z))
 }
 
-// A space and a small decimal number: a sample, or a refusal number.
-pub(crate) fn small(n: u8) {
-    number(n as usize);
+// The checksum with one more number.
+fn step(c: u64, number: u64) -> u64 {
+    (c % 1000000007 * 31 + number % 1000000007) % 1000000007
 }
 
-// The field `refused` and the refusal number.
-pub(crate) fn refused(r: u8) {
-    text(b" refused");
-    small(r);
+// The field `checksum` and a checksum.
+fn checksum(c: u64) -> bool {
+    text(b" checksum");
+    number(c)
 }
 
-// A word's 16 hexadecimal digits.
-fn digits(w: u64) {
-    io::print_hex(STDOUT_FILENO, w, 16);
-}
-
-// A pattern's hexadecimal digits: those of the first word, for N = 16 those of all four, the last word first.
-pub(crate) fn pattern_digits(n: usize, p: Pattern) {
-    if n == 16 {
-        digits(p.w3);
-        digits(p.w2);
-        digits(p.w1);
+// A sample, where it is shown.
+fn sample(s: u8, shown: bool) -> u64 {
+    if shown {
+        number(s as u64);
     }
-    digits(p.w0);
+    s as u64
 }
 
-// The start of a line: what it tells of, and two numbers.
-pub(crate) fn head(name: &[u8], a: usize, b: usize) {
-    text(name);
-    number(a);
-    number(b);
-}
-
-// A space and a pattern.
-pub(crate) fn pattern(n: usize, p: Pattern) {
-    text(b" ");
-    pattern_digits(n, p);
-}
-
-// The samples, a space before each.
-pub(crate) fn samples(s: &[u8]) {
+// The samples, where they are shown, and their checksum.
+pub(crate) fn samples(s: &[u8], shown: bool) -> bool {
+    let mut c = 0;
     for i in 0..s.len() {
-        small(s[i]);
+        c = step(c, sample(s[i], shown));
     }
+    checksum(c)
 }
 
-// The end of a line.
-pub(crate) fn end() {
-    text(b"\n");
+// The checksum with a word, its low half first; prints the word where it is shown.
+fn with_word(c: u64, w: u64, shown: bool) -> u64 {
+    if shown {
+        word(w);
+    }
+    step(step(c, w % 4294967296), w / 4294967296)
+}
+
+// The words from `first` on below `end`, and the checksum of all.
+pub(crate) fn words(list: &[u64], first: usize, end: usize) -> bool {
+    let mut c = 0;
+    for i in 0..list.len() {
+        c = with_word(c, list[i], first <= i && i < end);
+    }
+    checksum(c)
+}
+
+// The checksum with one field of a record more, its sign and its magnitude; prints the field where it is shown.
+fn with_field(c: u64, z: i32, lent: bool, shown: bool) -> u64 {
+    if !lent {
+        return c;
+    }
+    if shown {
+        signed(z);
+    }
+    step(step(c, (z < 0) as u64), magnitude(z))
+}
+
+// The checksum with a record, where it is lent; prints the record where it is shown.
+fn with_record(c: u64, r: [i32; 4], lent: bool, shown: bool) -> u64 {
+    let kind = with_field(c, r[0], lent, shown);
+    let entry = with_field(kind, r[1], lent, shown);
+    let off0 = with_field(entry, r[2], lent, shown);
+    with_field(off0, r[3], lent, shown)
+}
+
+// The first records, as many as are shown, and the checksum of those that are lent.
+pub(crate) fn records(r: &[[i32; 4]; RECORDS], lent: usize, shown: usize) -> bool {
+    let mut c = 0;
+    for i in 0..RECORDS {
+        c = with_record(c, r[i], i < lent, i < shown);
+    }
+    checksum(c)
 }

@@ -1,4 +1,4 @@
--- What follows where no check fails, and the list as built. Assumes nothing.
+-- What follows where no check fails, and the list as built.
 use Prim.Native.Nat.{ℕ, _-_, _*_, _≤_, _<_}
 use mathlib.Core.Bool.{Bool, true, false, cond}
 use mathlib.Core.Logic.{_⊎_, ⊎-elim, inl, inr}

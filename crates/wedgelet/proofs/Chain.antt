@@ -1,4 +1,4 @@
--- Entries by a key: from each entry to the last one before it with the same key. Assumes nothing.
+-- Entries by a key: from each entry to the last one before it with the same key.
 use Prim.Native.Nat.{ℕ, _+_, _≤_, _<_}
 use mathlib.Core.List.{List}
 use mathlib.Core.Logic.{_⊎_, ⊎-elim}

@@ -1,4 +1,4 @@
--- A loop that stores the list, in words, in the front of a slice, and chains its entries. Assumes nothing.
+-- A loop that stores the list, in words, in the front of a slice, and chains its entries.
 use Prim.Native.Nat.{ℕ, _+_, _-_, _*_, _≤_, _<_}
 use mathlib.Core.List.{List, [], _∷_, _++_}
 use mathlib.Core.Path.{_≡_, refl, sym, ap, ap₂, _∙_, subst}

@@ -1,4 +1,4 @@
--- The list as it grows, candidate by candidate, and its length. Assumes nothing.
+-- The list as it grows, candidate by candidate, and its length.
 use Prim.Native.Nat.{ℕ, zero, suc, _+_, _-_, _*_, _≤_, _<_}
 use mathlib.Core.Bool.{Bool, true, false, cond, _||_, or-true}
 use mathlib.Core.List.{List, [], _∷_, _++_}

@@ -1,4 +1,4 @@
--- One side of a line: its sums, row by row, and the side that does not hold (0,0). Assumes nothing.
+-- One side of a line: its sums, row by row, and the side that does not hold (0,0).
 use Prim.Native.Nat.{ℕ, _+_, _-_, _*_, _/_, _%_, _^_, _≤_, _<_, min}
 use mathlib.Core.Bool.{Bool, true, false, not}
 use mathlib.Core.Path.{_≡_, sym, ap, ap₂, _∙_, subst}

@@ -1,4 +1,4 @@
--- The line rule over whole numbers is a test of three products on each side, over natural numbers. Assumes nothing.
+-- The line rule over whole numbers is a test of three products on each side, over natural numbers.
 use Prim.Native.Nat.{ℕ, zero, suc, _+_, _-_, _*_, _≤_, _<_}
 use mathlib.Core.Bool.{Bool, true, false, cond}
 use mathlib.Core.Logic.{_⊎_, ⊎-elim, inl, inr}

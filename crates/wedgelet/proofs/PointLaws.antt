@@ -1,4 +1,4 @@
--- The border points, and the candidate across the diagonal. Assumes nothing.
+-- The border points, and the candidate across the diagonal.
 use Prim.Native.Nat.{ℕ, zero, suc, _-_, _*_, _/_, _%_, _^_, _≤_, _<_, min}
 use mathlib.Core.Bool.{Bool, true, false, cond}
 use mathlib.Core.Path.{_≡_, refl, sym, ap, _∙_}

@@ -1,5 +1,5 @@
 -- For every n the wedgelet list has no zero word, no word twice and none that marks (0,0), and the transposed pattern of each entry
--- is exactly one entry. Assumes nothing.
+-- is exactly one entry.
 use Prim.Native.Nat.{ℕ, zero, suc, _+_, _*_, _^_, _≤_, _<_}
 use mathlib.Core.Bool.{Bool, true, false, cond, _||_, false≢true, true≢false}
 use mathlib.Core.List.{List, [], _∷_, _++_}

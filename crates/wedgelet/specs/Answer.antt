@@ -1,4 +1,4 @@
--- What building the list answers and leaves in the lent slice: refusals in document 01's order. Assumes nothing.
+-- What building the list answers and leaves in the lent slice: refusals in document 01's order.
 use Prim.Native.Nat.{ℕ, _-_, _*_}
 use mathlib.Core.Bool.{Bool, _&&_}
 use mathlib.Core.List.{List, _++_}

@@ -1,4 +1,4 @@
--- Worked examples of the wedgelet list. Assumes nothing.
+-- Worked examples of the wedgelet list.
 use Prim.Native.Nat.{_-_, _^_}
 use mathlib.Core.Path.{_≡_, refl}
 use mathlib.Core.List.{[], _∷_}

@@ -1,4 +1,4 @@
--- One side of a line, as the code steps through it. Assumes nothing.
+-- One side of a line, as the code steps through it.
 use Prim.Native.Nat.{ℕ, _+_, _*_, _≤_, _<_}
 use mathlib.Core.Bool.{Bool, true, false, not}
 use lib.Dec.{ltb}

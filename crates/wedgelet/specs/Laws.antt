@@ -1,4 +1,4 @@
--- What is shown of the wedgelet list, as statements. Assumes nothing.
+-- What is shown of the wedgelet list, as statements.
 use Prim.Native.Nat.{ℕ, _<_}
 use mathlib.Core.Bool.{false}
 use mathlib.Core.Path.{_≡_}

@@ -1,4 +1,4 @@
--- What each case of the code's answer says, in document 01's numbers. Assumes nothing.
+-- What each case of the code's answer says, in document 01's numbers.
 use Prim.Native.Nat.{ℕ}
 use Rattle.arith.specs.Checks.{Answer, refused, given}
 use Rattle.wedgelet.specs.declared.list.Listed.{Listed}

@@ -1,4 +1,4 @@
--- The wedgelet list (document 01: the edge list). Assumes nothing.
+-- The wedgelet list (document 01: the edge list).
 use Prim.Native.Nat.{ℕ, zero, suc, _-_, _*_}
 use mathlib.Core.Bool.{Bool, false, cond, _||_}
 use mathlib.Core.List.{List, [], _∷_, _++_}

@@ -30,7 +30,7 @@ impl Default for Built {
 
 /// Aids with the lists as built, and no texture.
 pub fn plain_aids(built: &Built) -> Aids {
-    let (samples, records) = (SAMPLES_LENT, [RECORDS_LENT; 4]);
+    let (samples, records) = (SAMPLES_LENT, RECORDS_LENT);
     Aids { lists: built.0.clone(), texture: vec![], samples, records }
 }
 
@@ -148,12 +148,12 @@ pub fn any_aids(random: &mut Random, built: &Built, sheet: &Sheet) -> Aids {
     let length = texture(random, sheet);
     let texture = random.bytes(length);
     let samples = room(random, SAMPLES_LENT);
-    Aids { lists, texture, samples, records: [0; 4].map(|_| room(random, RECORDS_LENT)) }
+    Aids { lists, texture, samples, records: room(random, RECORDS_LENT) }
 }
 
 /// Whether all that is wrong at line 0 is a list of a size that the file does not use.
 pub fn only_unused_wrong(aids: &Aids, n: u32) -> bool {
     let sound = |k: usize| count_allowed(SIZES[k], &aids.lists[k].words, aids.lists[k].count);
-    let lengths = aids.samples >= SAMPLES_LENT && aids.records.iter().all(|&length| length >= RECORDS_LENT);
+    let lengths = aids.samples >= SAMPLES_LENT && aids.records >= RECORDS_LENT;
     lengths && sound(own(n)) && !(0..3).all(sound)
 }

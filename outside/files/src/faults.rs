@@ -117,20 +117,15 @@ fn count(source: &mut Source, random: &mut Random) {
     }
 }
 
-/// One of the four slices is one short.
-fn records_short(source: &mut Source, random: &mut Random) {
+/// One record fewer is lent than the sheet has blocks.
+fn records_short(source: &mut Source, _: &mut Random) {
     let length = blocks(source).saturating_sub(1);
-    match random.below(4) {
-        0 => source.fields.kinds.truncate(length),
-        1 => source.fields.entries.truncate(length),
-        2 => source.fields.offs0.truncate(length),
-        _ => source.fields.offs1.truncate(length),
-    }
+    source.fields.rows.truncate(length);
 }
 
 fn space_short(source: &mut Source, random: &mut Random) {
     let needed =
-        80 + 4 * source.table.len() + 32 * source.fields.kinds.len().min(source.sheet.placed as usize);
+        80 + 4 * source.table.len() + 32 * source.fields.rows.len().min(source.sheet.placed as usize);
     source.space = random.pick(&[needed - 1, needed - 1, needed - 1, needed - 32, needed / 2, 79, 80, 0]);
 }
 

@@ -48,85 +48,44 @@ impl<T: Copy + PartialEq> Lent<T> {
     }
 }
 
-/// Records as the library takes them, a slice for each field.
+/// Records as the library takes them: kind, entry, off0 and off1 of each. A kind or an entry from 2^31 on is negative there, and is refused
+/// as it is by the independent implementation.
 #[derive(Clone)]
 pub struct Fields {
-    pub kinds: Vec<u32>,
-    pub entries: Vec<u32>,
-    pub offs0: Vec<i32>,
-    pub offs1: Vec<i32>,
+    pub rows: Vec<[i32; 4]>,
 }
 
 impl Fields {
     pub fn of(records: &[Record]) -> Fields {
-        Fields {
-            kinds: records.iter().map(|record| record.kind).collect(),
-            entries: records.iter().map(|record| record.entry).collect(),
-            offs0: records.iter().map(|record| record.off0).collect(),
-            offs1: records.iter().map(|record| record.off1).collect(),
-        }
+        let row = |r: &Record| [r.kind as i32, r.entry as i32, r.off0, r.off1];
+        Fields { rows: records.iter().map(row).collect() }
     }
 
-    /// Numbers that no file holds, all of them different; `lengths` is that of each slice.
-    pub fn unread(lengths: [usize; 4]) -> Fields {
-        Fields {
-            kinds: (0..lengths[0]).map(|i| 1000000 + i as u32).collect(),
-            entries: (0..lengths[1]).map(|i| 2000000 + i as u32).collect(),
-            offs0: (0..lengths[2]).map(|i| 3000000 + i as i32).collect(),
-            offs1: (0..lengths[3]).map(|i| -4000000 - i as i32).collect(),
-        }
+    /// Numbers that no file holds, all of them different, in so many records.
+    pub fn unread(length: usize) -> Fields {
+        let row = |i| [1000000 + i, 2000000 + i, 3000000 + i, -4000000 - i];
+        Fields { rows: (0..length as i32).map(row).collect() }
     }
 
-    /// As many records as the shortest slice has.
     pub fn records(&self) -> Vec<Record> {
-        let (kinds, entries) = (self.kinds.iter(), self.entries.iter());
-        let offsets = self.offs0.iter().zip(&self.offs1);
-        let fields = kinds.zip(entries).zip(offsets);
-        fields.map(|((&kind, &entry), (&off0, &off1))| Record { kind, entry, off0, off1 }).collect()
+        let record = |&[kind, entry, off0, off1]: &[i32; 4]| Record {
+            kind: kind as u32,
+            entry: entry as u32,
+            off0,
+            off1,
+        };
+        self.rows.iter().map(record).collect()
     }
 
-    /// The slices with these records in their first places.
+    /// The slice with these records in its first places.
     pub fn with(&self, records: &[Record]) -> Fields {
-        let (mut fields, new) = (self.clone(), Fields::of(records));
-        fields.kinds[..records.len()].copy_from_slice(&new.kinds);
-        fields.entries[..records.len()].copy_from_slice(&new.entries);
-        fields.offs0[..records.len()].copy_from_slice(&new.offs0);
-        fields.offs1[..records.len()].copy_from_slice(&new.offs1);
+        let mut fields = self.clone();
+        fields.rows[..records.len()].copy_from_slice(&Fields::of(records).rows);
         fields
     }
-}
 
-/// Records lent to the library, each slice between guards.
-pub struct LentFields {
-    pub kinds: Lent<u32>,
-    pub entries: Lent<u32>,
-    pub offs0: Lent<i32>,
-    pub offs1: Lent<i32>,
-}
-
-impl LentFields {
-    pub fn new(fields: &Fields) -> LentFields {
-        LentFields {
-            kinds: Lent::new(&fields.kinds, 0xA5A5A5A5),
-            entries: Lent::new(&fields.entries, 0x5A5A5A5A),
-            offs0: Lent::new(&fields.offs0, -0x5A5A5A5A),
-            offs1: Lent::new(&fields.offs1, 0x25A5A5A5),
-        }
-    }
-
-    pub fn content(&self) -> Fields {
-        Fields {
-            kinds: self.kinds.content().to_vec(),
-            entries: self.entries.content().to_vec(),
-            offs0: self.offs0.content().to_vec(),
-            offs1: self.offs1.content().to_vec(),
-        }
-    }
-
-    pub fn hold(&self, fields: &Fields) -> bool {
-        self.kinds.holds(&fields.kinds)
-            && self.entries.holds(&fields.entries)
-            && self.offs0.holds(&fields.offs0)
-            && self.offs1.holds(&fields.offs1)
+    /// The slice lent to the library, between guards.
+    pub fn lent(&self) -> Lent<[i32; 4]> {
+        Lent::new(&self.rows, [0x25A5A5A5, 0x5A5A5A5A, -0x5A5A5A5A, -0x25A5A5A5])
     }
 }

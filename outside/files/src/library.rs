@@ -1,6 +1,6 @@
 //! The calls of `libfile_calls.a`: crates/file_calls has their contracts.
 
-use crate::lent::{Lent, LentFields};
+use crate::lent::Lent;
 use reference::sheet::Sheet;
 
 /// What reading answers; a refusal has 0 in all fields but its number and line.
@@ -42,14 +42,8 @@ extern "C" {
         texture_len: usize,
         samples: *mut u8,
         samples_len: usize,
-        kinds: *mut u32,
-        kinds_len: usize,
-        entries: *mut u32,
-        entries_len: usize,
-        offs0: *mut i32,
-        offs0_len: usize,
-        offs1: *mut i32,
-        offs1_len: usize,
+        records: *mut [i32; 4],
+        records_len: usize,
     ) -> FileRead;
 
     fn file_calls_write(
@@ -62,14 +56,8 @@ extern "C" {
         count: usize,
         table: *const u8,
         table_len: usize,
-        kinds: *const u32,
-        kinds_len: usize,
-        entries: *const u32,
-        entries_len: usize,
-        offs0: *const i32,
-        offs0_len: usize,
-        offs1: *const i32,
-        offs1_len: usize,
+        records: *const [i32; 4],
+        records_len: usize,
         out: *mut u8,
         out_len: usize,
     ) -> FileWritten;
@@ -82,7 +70,7 @@ pub fn read(
     counts: [usize; 3],
     texture: &mut Lent<u8>,
     samples: &mut Lent<u8>,
-    records: &mut LentFields,
+    records: &mut Lent<[i32; 4]>,
 ) -> FileRead {
     let [list4, list8, list16] = lists;
     unsafe {
@@ -102,14 +90,8 @@ pub fn read(
             texture.len(),
             samples.start(),
             samples.len(),
-            records.kinds.start(),
-            records.kinds.len(),
-            records.entries.start(),
-            records.entries.len(),
-            records.offs0.start(),
-            records.offs0.len(),
-            records.offs1.start(),
-            records.offs1.len(),
+            records.start(),
+            records.len(),
         )
     }
 }
@@ -120,7 +102,7 @@ pub fn write(
     list: &mut Lent<u64>,
     count: usize,
     table: &mut Lent<u8>,
-    records: &mut LentFields,
+    records: &mut Lent<[i32; 4]>,
     out: &mut Lent<u8>,
 ) -> FileWritten {
     unsafe {
@@ -134,14 +116,8 @@ pub fn write(
             count,
             table.start(),
             table.len(),
-            records.kinds.start(),
-            records.kinds.len(),
-            records.entries.start(),
-            records.entries.len(),
-            records.offs0.start(),
-            records.offs0.len(),
-            records.offs1.start(),
-            records.offs1.len(),
+            records.start(),
+            records.len(),
             out.start(),
             out.len(),
         )

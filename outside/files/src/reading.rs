@@ -1,6 +1,6 @@
 //! Reading by the library beside reading by the independent implementation.
 
-use crate::lent::{Fields, Lent, LentFields};
+use crate::lent::{Fields, Lent};
 use crate::library::{self, FileRead};
 use reference::block::words_of;
 use reference::choice::Record;
@@ -37,13 +37,13 @@ pub fn own(n: u32) -> usize {
 }
 
 /// What a file is read with: a list for each size, texture (empty for none), and the lengths of the lent samples and of the lent
-/// kinds, entries, off0 and off1.
+/// records.
 #[derive(Clone)]
 pub struct Aids {
     pub lists: [List; 3],
     pub texture: Vec<u8>,
     pub samples: usize,
-    pub records: [usize; 4],
+    pub records: usize,
 }
 
 impl Aids {
@@ -121,7 +121,7 @@ pub fn compare(bytes: &[u8], aids: &Aids) -> Result<Back, String> {
     let mut lent_lists = aids.lent_lists();
     let mut lent_texture = Lent::new(&aids.texture, 0xA5);
     let mut lent_samples = Lent::new(&old_samples, 0x5A);
-    let mut lent_fields = LentFields::new(&old_fields);
+    let mut lent_fields = old_fields.lent();
     let got = library::read(
         &mut lent_file,
         &mut lent_lists,
@@ -144,10 +144,10 @@ pub fn compare(bytes: &[u8], aids: &Aids) -> Result<Back, String> {
     if !lent_samples.holds(&samples) {
         return Err(format!("reading (refusal {}): other samples", want.refusal));
     }
-    if !lent_fields.hold(&fields) {
+    if !lent_fields.holds(&fields.rows) {
         return Err(format!("reading (refusal {}): other records", want.refusal));
     }
-    let records = lent_fields.content().records();
+    let records = Fields { rows: lent_fields.content().to_vec() }.records();
     Ok(Back { answer: got, samples: lent_samples.content().to_vec(), records })
 }
 

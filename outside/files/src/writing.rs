@@ -1,6 +1,6 @@
 //! Writing by the library beside writing by the independent implementation, and the two round trips.
 
-use crate::lent::{Fields, Lent, LentFields};
+use crate::lent::{Fields, Lent};
 use crate::library::{self, FileWritten};
 use crate::reading::{self, Aids, Back, List};
 use reference::file;
@@ -37,7 +37,7 @@ pub fn compare(source: &Source) -> Result<(u32, Vec<u8>), String> {
 
     let mut lent_list = Lent::new(words, 0xA5A5A5A5A5A5A5A5);
     let mut lent_table = Lent::new(&source.table, 0xA5);
-    let mut lent_fields = LentFields::new(&source.fields);
+    let mut lent_fields = source.fields.lent();
     let mut lent_out = Lent::new(&old, 0x5A);
     let got = library::write(
         &source.sheet,
@@ -54,7 +54,8 @@ pub fn compare(source: &Source) -> Result<(u32, Vec<u8>), String> {
             "writing: another answer\n  words and count {lists:?}\n  got      {got:?}\n  expected {want:?}"
         ));
     }
-    if !lent_list.holds(words) || !lent_table.holds(&source.table) || !lent_fields.hold(&source.fields) {
+    if !lent_list.holds(words) || !lent_table.holds(&source.table) || !lent_fields.holds(&source.fields.rows)
+    {
         return Err("writing: an input was altered".into());
     }
     if !lent_out.holds(&out) {

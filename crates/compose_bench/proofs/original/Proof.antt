@@ -1,41 +1,15 @@
--- `original` is safe and ends: the measure is the number of samples that are left. Assumes nothing.
+-- `original` is safe and ends: the measure is the number of samples that are left.
+use Rattle.sheet_grid.specs.Grid.{mostSamples}
 use Prim.Native.Nat.{_≤_, _-_}
 use borrow.Author.Needs.{needs}
 use Rattle.compose_bench.proofs.original.Statement.{statement}
 use Rattle.compose_bench.proofs.original.Tie as tie
 
 abbrev Inv-loop : tie.InvT-loop
-Inv-loop out₀ state₀ i₀ out state i = i ≤ 16384
+Inv-loop out₀ state₀ i₀ out state i = i ≤ mostSamples
 
 abbrev μ-loop : tie.MeasureT-loop
-μ-loop out₀ state₀ i₀ out state i = 16384 - i
-
-loop-holds : tie.Need-loop-holds Inv-loop μ-loop
-loop-holds c = search needs
-
-mul-state : tie.Need-mul-state Inv-loop μ-loop
-mul-state c = search needs
-
-add-state : tie.Need-add-state Inv-loop μ-loop
-add-state c = search needs
-
-cast-out : tie.Need-cast-out Inv-loop μ-loop
-cast-out c = search needs
-
-array-write-out : tie.Need-array-write-out Inv-loop μ-loop
-array-write-out c = search needs
-
-add-i : tie.Need-add-i Inv-loop μ-loop
-add-i c = search needs
-
-loop-less : tie.Need-loop-less Inv-loop μ-loop
-loop-less c = search needs
-
-loop-again : tie.Need-loop-again Inv-loop μ-loop
-loop-again c = search needs
-
-returns : tie.Need-returns Inv-loop μ-loop
-returns c = search needs
+μ-loop out₀ state₀ i₀ out state i = mostSamples - i
 
 pub original-spec : {M : Type 1} → statement M
 original-spec =
@@ -43,12 +17,12 @@ original-spec =
     (tie.spec
     Inv-loop
     μ-loop
-    loop-holds
-    mul-state
-    add-state
-    cast-out
-    array-write-out
-    add-i
-    loop-less
-    loop-again
-    returns)
+    (λ c. search needs)
+    (λ c. search needs)
+    (λ c. search needs)
+    (λ c. search needs)
+    (λ c. search needs)
+    (λ c. search needs)
+    (λ c. search needs)
+    (λ c. search needs)
+    (λ c. search needs))

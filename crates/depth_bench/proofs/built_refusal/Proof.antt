@@ -1,15 +1,9 @@
--- `built_refusal` meets its contract: the refusal does not depend on the list. Assumes nothing.
+-- `built_refusal` meets its contract: the refusal does not depend on the list.
 use mathlib.Core.Path.{_∙_}
 use Rattle.depth_bench.proofs.Built.{refusal-before}
 use borrow.Author.Needs.{needs}
 use Rattle.depth_bench.proofs.built_refusal.Statement.{statement}
 use Rattle.depth_bench.proofs.built_refusal.Tie as tie
-
-slice-aggregate-choose-refusal : tie.Need-slice-aggregate-choose-refusal
-slice-aggregate-choose-refusal c = search needs
-
-choose-refusal-requires : tie.Need-choose-refusal-requires
-choose-refusal-requires c κs = search needs
 
 returns : tie.Need-returns
 returns c =
@@ -18,4 +12,4 @@ returns c =
 
 pub built-refusal-spec : {M : Type 1} → statement M
 built-refusal-spec =
-    tie.close (tie.spec slice-aggregate-choose-refusal choose-refusal-requires returns)
+    tie.close (tie.spec (λ c. search needs) (λ c κs. search needs) returns)

@@ -1,4 +1,4 @@
--- `contour_pattern` meets its contract, return by return. Assumes nothing.
+-- `contour_pattern` meets its contract, return by return.
 use mathlib.Core.Path.{sym, ap, _∙_}
 use native.Mathlib.Omega.{arith}
 use lib.ListN.{length}
@@ -12,35 +12,14 @@ use borrow.Author.Needs.{needs}
 use Rattle.depth_bench.proofs.contour_pattern.Statement.{statement}
 use Rattle.depth_bench.proofs.contour_pattern.Tie as tie
 
-no-pattern-requires : tie.Need-no-pattern-requires
-no-pattern-requires c κs = search needs
-
 returns : tie.Need-returns
 returns c = rw (ne-eqb _ _ (c .before .if1 .taken)) (c .no-pattern .ensures)
-
-no-pattern-requires-2 : tie.Need-no-pattern-requires-2
-no-pattern-requires-2 c κs = search needs
 
 returns-2 : tie.Need-returns-2
 returns-2 c =
     let s = c .before .before .before .before in
     rw (eq-eqb _ _ (c .before .before .if1 .left), le-ltb 0 (length (s .args .texture .now)) (omega (arith, c .before .if2 .taken)))
     (c .no-pattern2 .ensures)
-
-contour-requires : tie.Need-contour-requires
-contour-requires c κs = search needs
-
-enum-known-p : tie.Need-enum-known-p
-enum-known-p c = search needs
-
-pattern-in-requires : tie.Need-pattern-in-requires
-pattern-in-requires c κs = search needs
-
-enum-known-number : tie.Need-enum-known-number
-enum-known-number c = search needs
-
-no-pattern-requires-3 : tie.Need-no-pattern-requires-3
-no-pattern-requires-3 c κs = search needs
 
 returns-3 : tie.Need-returns-3
 returns-3 c =
@@ -63,14 +42,14 @@ pub contour-pattern-spec : {M : Type 1} → statement M
 contour-pattern-spec =
     tie.close
     (tie.spec
-    no-pattern-requires
+    (λ c κs. search needs)
     returns
-    no-pattern-requires-2
+    (λ c κs. search needs)
     returns-2
-    contour-requires
-    enum-known-p
-    pattern-in-requires
-    enum-known-number
-    no-pattern-requires-3
+    (λ c κs. search needs)
+    (λ c. search needs)
+    (λ c κs. search needs)
+    (λ c. search needs)
+    (λ c κs. search needs)
     returns-3
     returns-4)

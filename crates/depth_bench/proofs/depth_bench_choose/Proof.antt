@@ -1,4 +1,4 @@
--- `depth_bench_choose` meets its contract: the list is built for n, and the refusals do not depend on it. Assumes nothing.
+-- `depth_bench_choose` meets its contract: the list is built for n, and the refusals do not depend on it.
 use mathlib.Core.Path.{sym, ap, _∙_}
 use Rattle.wedgelet.specs.Told.{listTold}
 use Rattle.choice.specs.Answer.{chooseAnswer}
@@ -8,12 +8,6 @@ use borrow.Author.Needs.{needs}
 use Rattle.depth_bench.proofs.depth_bench_choose.Statement.{statement}
 use Rattle.depth_bench.proofs.depth_bench_choose.Tie as tie
 
-built-refusal-requires : tie.Need-built-refusal-requires
-built-refusal-requires c κs = search needs
-
-refused-requires : tie.Need-refused-requires
-refused-requires c κs = search needs
-
 returns : tie.Need-returns
 returns c =
     let b = c .before .before in
@@ -21,30 +15,6 @@ returns c =
     let e = c .refused .ensures
     ∙ ap choiceStruct (refused-built (a .n) (a .border .now) (a .original .now) (a .table .now) (a .reach) (a .texture .now) (b .built-refusal .ensures) (c .before .if1 .taken)) in
     (e, least-built (a .n) (a .border .now) (a .original .now) (a .table .now) (a .reach) (a .texture .now) e)
-
-slice-aggregate-wedgelets : tie.Need-slice-aggregate-wedgelets
-slice-aggregate-wedgelets c = search needs
-
-wedgelets-requires : tie.Need-wedgelets-requires
-wedgelets-requires c κs = search needs
-
-enum-known-built : tie.Need-enum-known-built
-enum-known-built c = search needs
-
-slice-aggregate-choose : tie.Need-slice-aggregate-choose
-slice-aggregate-choose c = search needs
-
-choose-requires : tie.Need-choose-requires
-choose-requires c κs = search needs
-
-told-requires : tie.Need-told-requires
-told-requires c κs = search needs
-
-enum-known-built-2 : tie.Need-enum-known-built-2
-enum-known-built-2 c = search needs
-
-refused-requires-2 : tie.Need-refused-requires-2
-refused-requires-2 c κs = search needs
 
 returns-2 : tie.Need-returns-2
 returns-2 c =
@@ -73,16 +43,16 @@ pub depth-bench-choose-spec : {M : Type 1} → statement M
 depth-bench-choose-spec =
     tie.close
     (tie.spec
-    built-refusal-requires
-    refused-requires
+    (λ c κs. search needs)
+    (λ c κs. search needs)
     returns
-    slice-aggregate-wedgelets
-    wedgelets-requires
-    enum-known-built
-    slice-aggregate-choose
-    choose-requires
-    told-requires
-    enum-known-built-2
-    refused-requires-2
+    (λ c. search needs)
+    (λ c κs. search needs)
+    (λ c. search needs)
+    (λ c. search needs)
+    (λ c κs. search needs)
+    (λ c κs. search needs)
+    (λ c. search needs)
+    (λ c κs. search needs)
     returns-2
     returns-3)

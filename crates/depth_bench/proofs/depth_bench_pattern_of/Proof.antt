@@ -1,16 +1,10 @@
--- `depth_bench_pattern_of` meets its contract, kind by kind. Assumes nothing.
+-- `depth_bench_pattern_of` meets its contract, kind by kind.
 use mathlib.Core.Path.{ap, _∙_}
 use Rattle.depth_bench.specs.Structs.{patternStruct}
 use Rattle.depth_bench.proofs.PatternLaws.{refused-first, passed-first, wedgelet-answer, contour-answer, other-answer}
 use borrow.Author.Needs.{needs}
 use Rattle.depth_bench.proofs.depth_bench_pattern_of.Statement.{statement}
 use Rattle.depth_bench.proofs.depth_bench_pattern_of.Tie as tie
-
-texture-refusal-requires : tie.Need-texture-refusal-requires
-texture-refusal-requires c κs = search needs
-
-no-pattern-requires : tie.Need-no-pattern-requires
-no-pattern-requires c κs = search needs
 
 returns : tie.Need-returns
 returns c =
@@ -27,9 +21,6 @@ contour-pattern-requires : tie.Need-contour-pattern-requires
 contour-pattern-requires c κs =
     let a = c .before .before .before .before .args in
     passed-first (a .n) (a .texture .now) (c .before .before .texture-refusal .ensures) (c .before .if1 .left)
-
-no-pattern-requires-2 : tie.Need-no-pattern-requires-2
-no-pattern-requires-2 c κs = search needs
 
 returns-2 : tie.Need-returns-2
 returns-2 c =
@@ -54,12 +45,12 @@ pub depth-bench-pattern-of-spec : {M : Type 1} → statement M
 depth-bench-pattern-of-spec =
     tie.close
     (tie.spec
-    texture-refusal-requires
-    no-pattern-requires
+    (λ c κs. search needs)
+    (λ c κs. search needs)
     returns
     wedgelet-pattern-requires
     contour-pattern-requires
-    no-pattern-requires-2
+    (λ c κs. search needs)
     returns-2
     returns-3
     returns-4)

@@ -1,4 +1,4 @@
--- `depth_bench_predict` meets its contract: the struct says what `predict` answered. Assumes nothing.
+-- `depth_bench_predict` meets its contract: the struct says what `predict` answered.
 use mathlib.Core.Path.{sym, ap, _∙_}
 use mir.Syntax.{w32}
 use mir.ValLaws.{toZ-ofZ}
@@ -8,21 +8,6 @@ use borrow.Author.Needs.{needs}
 use Rattle.depth_bench.proofs.depth_bench_predict.Statement.{statement}
 use Rattle.depth_bench.proofs.depth_bench_predict.Tie as tie
 
-predict-requires : tie.Need-predict-requires
-predict-requires c κs = tt
-
-enum-known-answer : tie.Need-enum-known-answer
-enum-known-answer c = search needs
-
-enum-known-answer-2 : tie.Need-enum-known-answer-2
-enum-known-answer-2 c = search needs
-
-wide-requires : tie.Need-wide-requires
-wide-requires c κs = tt
-
-same-length : tie.Need-same-length
-same-length c = search needs
-
 returns : tie.Need-returns
 returns c =
     let p = c .before .before .before .before .before in
@@ -31,9 +16,6 @@ returns c =
     let f = toZ-ofZ w32 _ (s .fits .off1) in
     let told = ap predictTold (c .before .answer .given .1) in
     (rw (e, f) at (ap predictionStruct (sym told ∙ p .predict .ensures .0)), rw (e, f) at (p .predict .ensures .1))
-
-same-length-2 : tie.Need-same-length-2
-same-length-2 c = search needs
 
 returns-2 : tie.Need-returns-2
 returns-2 c =
@@ -48,11 +30,11 @@ pub depth-bench-predict-spec : {M : Type 1} → statement M
 depth-bench-predict-spec =
     tie.close
     (tie.spec
-    predict-requires
-    enum-known-answer
-    enum-known-answer-2
-    wide-requires
-    same-length
+    (λ c κs. tt)
+    (λ c. search needs)
+    (λ c. search needs)
+    (λ c κs. tt)
+    (λ c. search needs)
     returns
-    same-length-2
+    (λ c. search needs)
     returns-2)

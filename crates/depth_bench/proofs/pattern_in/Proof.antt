@@ -1,4 +1,4 @@
--- `pattern_in` meets its contract: the four words of the number are those of the pattern. Assumes nothing.
+-- `pattern_in` meets its contract: the four words of the number are those of the pattern.
 use mathlib.Core.Path.{sym, ap}
 use Rattle.pattern.proofs.WordLaws.{in-four}
 use Rattle.depth_bench.specs.Structs.{wordsStruct}

@@ -1,4 +1,4 @@
--- `texture_refusal` meets its contract: no texture, and texture of n * n samples. Assumes nothing.
+-- `texture_refusal` meets its contract: no texture, and texture of n * n samples.
 use mathlib.Core.Bool.{Bool}
 use mathlib.Core.Path.{ap, _∙_}
 use borrow.Author.Tests.{ne-eqb}
@@ -8,17 +8,8 @@ use borrow.Author.Needs.{needs}
 use Rattle.depth_bench.proofs.texture_refusal.Statement.{statement}
 use Rattle.depth_bench.proofs.texture_refusal.Tie as tie
 
-size-ok-requires : tie.Need-size-ok-requires
-size-ok-requires c κs = search needs
-
-check-requires : tie.Need-check-requires
-check-requires c κs = search needs
-
 returns : tie.Need-returns
 returns c = rw (c .before .before .if1 .taken) (c .check .ensures ∙ ap (λ (b : Bool). unless b 1 0) (c .before .size-ok .ensures))
-
-samples-refusal-requires : tie.Need-samples-refusal-requires
-samples-refusal-requires c κs = search needs
 
 returns-2 : tie.Need-returns-2
 unfolding samplesRefusal
@@ -26,4 +17,4 @@ returns-2 c = rw (ne-eqb _ _ (c .before .if1 .left)) (c .samples-refusal .ensure
 
 pub texture-refusal-spec : {M : Type 1} → statement M
 texture-refusal-spec =
-    tie.close (tie.spec size-ok-requires check-requires returns samples-refusal-requires returns-2)
+    tie.close (tie.spec (λ c κs. search needs) (λ c κs. search needs) returns (λ c κs. search needs) returns-2)

@@ -1,4 +1,4 @@
--- `wedgelet_pattern` meets its contract: the list is built for n, and its count is that of the definition. Assumes nothing.
+-- `wedgelet_pattern` meets its contract: the list is built for n, and its count is that of the definition.
 use Prim.Native.Nat.{ℕ}
 use mathlib.Core.List.{List}
 use mathlib.Core.Path.{sym, ap, _∙_}
@@ -15,24 +15,6 @@ use borrow.Author.Needs.{needs}
 use Rattle.depth_bench.proofs.wedgelet_pattern.Statement.{statement}
 use Rattle.depth_bench.proofs.wedgelet_pattern.Tie as tie
 
-slice-aggregate-wedgelets : tie.Need-slice-aggregate-wedgelets
-slice-aggregate-wedgelets c = search needs
-
-wedgelets-requires : tie.Need-wedgelets-requires
-wedgelets-requires c κs = search needs
-
-enum-known-built : tie.Need-enum-known-built
-enum-known-built c = search needs
-
-slice-aggregate-pattern-at : tie.Need-slice-aggregate-pattern-at
-slice-aggregate-pattern-at c = search needs
-
-pattern-at-requires : tie.Need-pattern-at-requires
-pattern-at-requires c κs = search needs
-
-pattern-in-requires : tie.Need-pattern-in-requires
-pattern-in-requires c κs = search needs
-
 returns : tie.Need-returns
 returns c =
     let q = c .before in
@@ -44,15 +26,6 @@ returns c =
     (c .pattern-in .ensures
     ∙ ap (λ (x : ℕ). patternStruct (given x))
     (q .pattern-at .ensures ∙ ap (λ (l : List ℕ). getD (patternsOf (a .n) l) (a .entry) 0) (w .wedgelets .ensures .1)))
-
-no-pattern-requires : tie.Need-no-pattern-requires
-no-pattern-requires c κs = search needs
-
-enum-known-built-2 : tie.Need-enum-known-built-2
-enum-known-built-2 c = search needs
-
-no-pattern-requires-2 : tie.Need-no-pattern-requires-2
-no-pattern-requires-2 c κs = search needs
 
 returns-2 : tie.Need-returns-2
 returns-2 c =
@@ -73,15 +46,15 @@ pub wedgelet-pattern-spec : {M : Type 1} → statement M
 wedgelet-pattern-spec =
     tie.close
     (tie.spec
-    slice-aggregate-wedgelets
-    wedgelets-requires
-    enum-known-built
-    slice-aggregate-pattern-at
-    pattern-at-requires
-    pattern-in-requires
+    (λ c. search needs)
+    (λ c κs. search needs)
+    (λ c. search needs)
+    (λ c. search needs)
+    (λ c κs. search needs)
+    (λ c κs. search needs)
     returns
-    no-pattern-requires
-    enum-known-built-2
-    no-pattern-requires-2
+    (λ c κs. search needs)
+    (λ c. search needs)
+    (λ c κs. search needs)
     returns-2
     returns-3)

@@ -18,12 +18,6 @@ abbrev μ-loop : tie.MeasureT-loop
 loop-holds : tie.Need-loop-holds Inv-loop μ-loop
 loop-holds c = (search needs, refl)
 
-shared-slice-read-wide : tie.Need-shared-slice-read-wide Inv-loop μ-loop
-shared-slice-read-wide c = search needs
-
-wide-requires : tie.Need-wide-requires Inv-loop μ-loop
-wide-requires c κs = search needs
-
 returns : tie.Need-returns Inv-loop μ-loop
 returns c =
     let l = c .before .before .before .before in
@@ -33,12 +27,6 @@ add-low : tie.Need-add-low Inv-loop μ-loop
 add-low c =
     let l = c .before .before .before .before in
     omega (arith, l .before .shared-slice-known .given (l .loop .i))
-
-add-i : tie.Need-add-i Inv-loop μ-loop
-add-i c = search needs
-
-loop-less : tie.Need-loop-less Inv-loop μ-loop
-loop-less c = search needs
 
 loop-again : tie.Need-loop-again Inv-loop μ-loop
 loop-again c =
@@ -57,11 +45,11 @@ is-rising-spec =
     Inv-loop
     μ-loop
     loop-holds
-    shared-slice-read-wide
-    wide-requires
+    (λ c. search needs)
+    (λ c κs. search needs)
     returns
     add-low
-    add-i
-    loop-less
+    (λ c. search needs)
+    (λ c. search needs)
     loop-again
     returns-2)

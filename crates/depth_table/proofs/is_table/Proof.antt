@@ -19,9 +19,6 @@ returns-2 c =
     let m = length (now (c .before .before .before .args .table)) in
     simp (le-leb 1 m (omega (arith, c .if2 .taken)), lt-leb m 256 (omega (arith, c .if2 .taken)))
 
-is-rising-requires : tie.Need-is-rising-requires
-is-rising-requires c κs = search needs
-
 returns-3 : tie.Need-returns-3
 unfolding tableOk
 returns-3 c =
@@ -34,4 +31,4 @@ returns-3 c =
     (c .is-rising .ensures)
 
 pub is-table-spec : {M : Type 1} → statement M
-is-table-spec = tie.close (tie.spec returns returns-2 is-rising-requires returns-3)
+is-table-spec = tie.close (tie.spec returns returns-2 (λ c κs. search needs) returns-3)

@@ -1,77 +1,21 @@
--- `nearest_index` meets its contract. The invariant: best is the index among the values at 0 .. k.
-use Prim.Native.Nat.{_≤_, _-_}
-use mathlib.Core.Path.{_≡_}
-use native.Mathlib.Omega.{arith}
+-- `nearest_index` meets its contract: no value, or what `nearest` finds.
 use borrow.Author.Needs.{needs}
+use mathlib.Core.Path.{ap}
+use native.Mathlib.Omega.{arith}
+use borrow.Author.Tests.{lt-ltb, le-ltb}
 use lib.ListN.{length}
-use Rattle.depth_table.specs.Table.{nearestTo}
-use Rattle.depth_table.proofs.IndexLaws.{nearest-none, nearest-new, nearest-old, nearest-end}
+use Rattle.arith.specs.Checks.{given}
+use Rattle.depth_table.specs.Answer.{nearestAnswer}
 use Rattle.depth_table.proofs.nearest_index.Statement.{statement}
 use Rattle.depth_table.proofs.nearest_index.Tie as tie
 
-abbrev Inv-loop : tie.InvT-loop
-Inv-loop table want best₀ k₀ best k = (k ≤ length table - 1) × (best ≤ k) × (best ≡ nearestTo table want k)
+returns : tie.Need-returns
+unfolding nearestAnswer
+returns c = rw (le-ltb 0 (length (c .before .before .args .table .now)) (omega (arith, c .if1 .taken)))
 
-abbrev μ-loop : tie.MeasureT-loop
-μ-loop table want best₀ k₀ best k = length table - k
-
-loop-holds : tie.Need-loop-holds Inv-loop μ-loop
-loop-holds c = (omega arith, omega arith, nearest-none _ _)
-
-add-loop : tie.Need-add-loop Inv-loop μ-loop
-add-loop c = search needs
-
-add-k : tie.Need-add-k Inv-loop μ-loop
-add-k c = search needs
-
-shared-slice-read-distance : tie.Need-shared-slice-read-distance Inv-loop μ-loop
-shared-slice-read-distance c = search needs
-
-distance-requires : tie.Need-distance-requires Inv-loop μ-loop
-distance-requires c κs = search needs
-
-shared-slice-read-distance-2 : tie.Need-shared-slice-read-distance-2 Inv-loop μ-loop
-shared-slice-read-distance-2 c = search needs
-
-distance-requires-2 : tie.Need-distance-requires-2 Inv-loop μ-loop
-distance-requires-2 c κs = search needs
-
-loop-less : tie.Need-loop-less Inv-loop μ-loop
-loop-less c = search needs
-
-loop-again : tie.Need-loop-again Inv-loop μ-loop
-loop-again c =
-    let l = c .before .before .before .before .before .before .loop in
-    (omega arith, omega arith, nearest-new _ _ (l .k) (l .best) (l .inv .2) (omega arith))
-
-loop-less-2 : tie.Need-loop-less-2 Inv-loop μ-loop
-loop-less-2 c = search needs
-
-loop-again-2 : tie.Need-loop-again-2 Inv-loop μ-loop
-loop-again-2 c =
-    let l = c .before .before .before .before .before .before .loop in
-    (omega arith, omega arith, nearest-old _ _ (l .k) (l .best) (l .inv .2) (omega arith))
-
-returns : tie.Need-returns Inv-loop μ-loop
-returns c =
-    let l = c .before .loop in
-    nearest-end _ _ (l .k) (l .best) (l .inv .2) (omega arith)
+returns-2 : tie.Need-returns-2
+unfolding nearestAnswer
+returns-2 c = rw (lt-ltb 0 (length (c .before .before .before .args .table .now)) (omega (arith, c .before .if1 .left))) (ap given (c .nearest .ensures))
 
 pub nearest-index-spec : {M : Type 1} → statement M
-nearest-index-spec =
-    tie.close
-    (tie.spec
-    Inv-loop
-    μ-loop
-    loop-holds
-    add-loop
-    add-k
-    shared-slice-read-distance
-    distance-requires
-    shared-slice-read-distance-2
-    distance-requires-2
-    loop-less
-    loop-again
-    loop-less-2
-    loop-again-2
-    returns)
+nearest-index-spec = tie.close (tie.spec returns (λ c κs. search needs) returns-2)

@@ -1,4 +1,4 @@
--- `file_calls_choose` meets its contract, case by case of what `choose` answered. Assumes nothing.
+-- `file_calls_choose` meets its contract, case by case of what `choose` answered.
 use mathlib.Core.Path.{sym, ap, ap₂, _∙_}
 use lib.IntN.{ℤ}
 use mir.Syntax.{w32}
@@ -11,25 +11,13 @@ use borrow.Author.Needs.{needs}
 use Rattle.file_calls.proofs.file_calls_choose.Statement.{statement}
 use Rattle.file_calls.proofs.file_calls_choose.Tie as tie
 
-choose-requires : tie.Need-choose-requires
-choose-requires c κs = search needs
-
-enum-known-answer : tie.Need-enum-known-answer
-enum-known-answer c = search needs
-
-enum-known-answer-2 : tie.Need-enum-known-answer-2
-enum-known-answer-2 c = search needs
-
-wide-requires : tie.Need-wide-requires
-wide-requires c κs = search needs
-
 returns : tie.Need-returns
 returns c =
     let told = c .before .before in
     let b = told .answer .given .0 .0 in
     let e = toZ-ofZ w32 (b .off0) (search needs) in
     let f = toZ-ofZ w32 (b .off1) (search needs) in
-    let chosen : ℤ → ℤ → FileChosen = λ x y. record { refusal = 0; kind = b .kind; entry = b .entry; off0 = x; off1 = y; cost = b .cost } in
+    let chosen : ℤ → ℤ → FileChosen = λ x y. record { refusal = 0; kind = b .kind; entry = b .entry; off0 = x; off1 = y; cost = told .answer .given .0 .1 .0 } in
     ap₂ chosen e f ∙ ap chosenOf (sym (ap chooseTold (told .answer .given .1)) ∙ told .before .before .choose .ensures .0)
 
 returns-2 : tie.Need-returns-2
@@ -42,9 +30,9 @@ pub file-calls-choose-spec : {M : Type 1} → statement M
 file-calls-choose-spec =
     tie.close
     (tie.spec
-    choose-requires
-    enum-known-answer
-    enum-known-answer-2
-    wide-requires
+    (λ c κs. search needs)
+    (λ c. search needs)
+    (λ c. search needs)
+    (λ c κs. search needs)
     returns
     returns-2)

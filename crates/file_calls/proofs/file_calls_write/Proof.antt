@@ -1,4 +1,4 @@
--- `file_calls_write` meets its contract, case by case of what `write` answered. Assumes nothing.
+-- `file_calls_write` meets its contract, case by case of what `write` answered.
 use mathlib.Core.Path.{sym, ap, _∙_}
 use Rattle.arith.specs.Checks.{refused}
 use Rattle.record_write.specs.Told.{wroteTold}
@@ -7,29 +7,11 @@ use borrow.Author.Needs.{needs}
 use Rattle.file_calls.proofs.file_calls_write.Statement.{statement}
 use Rattle.file_calls.proofs.file_calls_write.Tie as tie
 
-write-requires : tie.Need-write-requires
-write-requires c κs = search needs
-
-enum-known-wrote : tie.Need-enum-known-wrote
-enum-known-wrote c = search needs
-
-enum-known-wrote-2 : tie.Need-enum-known-wrote-2
-enum-known-wrote-2 c = search needs
-
-wide-requires : tie.Need-wide-requires
-wide-requires c κs = search needs
-
-same-length : tie.Need-same-length
-same-length c = search needs
-
 returns : tie.Need-returns
 returns c =
     let p = c .before .before .before .before .before in
     let told = ap wroteTold (c .before .wrote .given .1) in
     (ap fileWrittenOf (sym told ∙ p .write .ensures .0), p .write .ensures .1)
-
-same-length-2 : tie.Need-same-length-2
-same-length-2 c = search needs
 
 returns-2 : tie.Need-returns-2
 returns-2 c =
@@ -41,11 +23,11 @@ pub file-calls-write-spec : {M : Type 1} → statement M
 file-calls-write-spec =
     tie.close
     (tie.spec
-    write-requires
-    enum-known-wrote
-    enum-known-wrote-2
-    wide-requires
-    same-length
+    (λ c κs. search needs)
+    (λ c. search needs)
+    (λ c. search needs)
+    (λ c κs. search needs)
+    (λ c. search needs)
     returns
-    same-length-2
+    (λ c. search needs)
     returns-2)

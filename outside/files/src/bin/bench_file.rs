@@ -3,7 +3,7 @@
 
 use files::aids::{plain_aids, Built};
 use files::cases::Case;
-use files::lent::{Fields, Lent, LentFields};
+use files::lent::{Fields, Lent};
 use files::library;
 use files::random::Random;
 use files::reading::List;
@@ -51,7 +51,7 @@ fn time_reading(case: &Case, text: &[u8], calls: u32) -> [f64; 2] {
     let aids = &case.aids;
     let (mut bytes, mut lists, mut texture) = (Lent::new(text, 0), aids.lent_lists(), Lent::new(&[], 0));
     let (mut samples, mut fields) =
-        (Lent::new(&vec![0; aids.samples], 0), LentFields::new(&Fields::unread(aids.records)));
+        (Lent::new(&vec![0; aids.samples], 0), Fields::unread(aids.records).lent());
     let (mut own_samples, mut own_records) = (vec![0; aids.samples], Fields::unread(aids.records).records());
     let library = || {
         let back =
@@ -68,7 +68,7 @@ fn time_reading(case: &Case, text: &[u8], calls: u32) -> [f64; 2] {
 fn time_writing(case: &Case, text: &[u8], calls: u32) -> [f64; 2] {
     let List { words, count } = case.list();
     let (mut list, mut table) = (Lent::new(words, 0), Lent::new(&case.table, 0));
-    let mut fields = LentFields::new(&Fields::of(&case.records));
+    let mut fields = Fields::of(&case.records).lent();
     let space = vec![0; space_for(&case.sheet, case.table.len())];
     let (mut out, mut own_out) = (Lent::new(&space, 0), space);
     let library = || {

@@ -59,7 +59,7 @@ fn write_once(case: &Case, random: &mut Random, built: &Built, tally: &mut Tally
     if refusal == 0 {
         let mut aids = plain_aids(built);
         aids.lists[own(source.sheet.n)] = source.list.clone();
-        if source.fields.kinds.contains(&1) {
+        if source.fields.rows.iter().any(|row| row[0] == 1) {
             aids.texture = random.bytes(source.sheet.area() as usize);
         }
         writing::read_back(&written, &source, &aids)?;

@@ -1,4 +1,4 @@
--- `column` meets its contract: after y samples the first y places are filled. Assumes nothing.
+-- `column` meets its contract: after y samples the first y places are filled.
 use Prim.Native.Nat.{_-_, _≤_}
 use mathlib.Core.Path.{_≡_, refl, sym}
 use native.Mathlib.Omega.{arith}
@@ -18,24 +18,6 @@ abbrev μ-loop : tie.MeasureT-loop
 loop-holds : tie.Need-loop-holds Inv-loop μ-loop
 loop-holds c = (omega arith, sym (upto-none capacity _ 0))
 
-mul-r : tie.Need-mul-r Inv-loop μ-loop
-mul-r c = search needs
-
-index-1-r : tie.Need-index-1-r Inv-loop μ-loop
-index-1-r c = search needs
-
-index-2-r : tie.Need-index-2-r Inv-loop μ-loop
-index-2-r c = search needs
-
-array-write-r : tie.Need-array-write-r Inv-loop μ-loop
-array-write-r c = search needs
-
-add-y : tie.Need-add-y Inv-loop μ-loop
-add-y c = search needs
-
-loop-less : tie.Need-loop-less Inv-loop μ-loop
-loop-less c = search needs
-
 loop-again : tie.Need-loop-again Inv-loop μ-loop
 loop-again c = (search needs, fill-by capacity _ _ 0 (c .before .before .loop .inv .1) refl (omega arith))
 
@@ -49,11 +31,11 @@ column-spec =
     Inv-loop
     μ-loop
     loop-holds
-    mul-r
-    index-1-r
-    index-2-r
-    array-write-r
-    add-y
-    loop-less
+    (λ c. search needs)
+    (λ c. search needs)
+    (λ c. search needs)
+    (λ c. search needs)
+    (λ c. search needs)
+    (λ c. search needs)
     loop-again
     returns)

@@ -1,4 +1,4 @@
--- `columns_of` meets its contract: after x rows the first x are filled. Assumes nothing.
+-- `columns_of` meets its contract: after x rows the first x are filled.
 use Prim.Native.Nat.{_-_, _≤_}
 use mathlib.Core.Path.{_≡_, sym}
 use native.Mathlib.Omega.{arith}
@@ -16,24 +16,6 @@ Inv-loop n b t₀ x₀ t x = (x ≤ n) × (t ≡ upto capacity x (λ j. upto cap
 abbrev μ-loop : tie.MeasureT-loop
 μ-loop n b t₀ x₀ t x = n - x
 
-loop-holds : tie.Need-loop-holds Inv-loop μ-loop
-loop-holds c = (omega arith, sym (upto-none capacity _ (replicate capacity 0)))
-
-column-requires : tie.Need-column-requires Inv-loop μ-loop
-column-requires c κs = search needs
-
-mul-t : tie.Need-mul-t Inv-loop μ-loop
-mul-t c = search needs
-
-array-set-from-t : tie.Need-array-set-from-t Inv-loop μ-loop
-array-set-from-t c = search needs
-
-add-x : tie.Need-add-x Inv-loop μ-loop
-add-x c = search needs
-
-loop-less : tie.Need-loop-less Inv-loop μ-loop
-loop-less c = search needs
-
 loop-again : tie.Need-loop-again Inv-loop μ-loop
 loop-again c =
     (search needs, fill-by capacity _ _ (replicate capacity 0) (c .before .before .loop .inv .1) (c .column .ensures) (omega arith))
@@ -48,11 +30,11 @@ columns-of-spec =
     (tie.spec
     Inv-loop
     μ-loop
-    loop-holds
-    column-requires
-    mul-t
-    array-set-from-t
-    add-x
-    loop-less
+    (λ c. (omega arith, sym (upto-none capacity _ (replicate capacity 0))))
+    (λ c κs. search needs)
+    (λ c. search needs)
+    (λ c. search needs)
+    (λ c. search needs)
+    (λ c. search needs)
     loop-again
     returns)

@@ -1,4 +1,4 @@
--- `put_samples` meets its contract: after k samples the first k places hold the block's. Assumes nothing.
+-- `put_samples` meets its contract: after k samples the first k places hold the block's.
 use Prim.Native.Nat.{ℕ, _-_, _*_, _/_, _%_, _≤_, _<_}
 use mathlib.Core.Path.{_≡_, refl}
 use native.Mathlib.Omega.{arith}

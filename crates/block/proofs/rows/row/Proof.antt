@@ -1,4 +1,4 @@
--- `row` meets its contract: after x samples the first x places are filled. Assumes nothing.
+-- `row` meets its contract: after x samples the first x places are filled.
 use Prim.Native.Nat.{_-_, _≤_}
 use mathlib.Core.Path.{_≡_, refl, sym}
 use native.Mathlib.Omega.{arith}
@@ -30,15 +30,6 @@ add-r c = omega (arith, place-lt (c .before .before .args .n) (c .before .loop .
 shared-slice-read-r : tie.Need-shared-slice-read-r Inv-loop μ-loop
 shared-slice-read-r c = omega (arith, place-lt (c .before .before .before .args .n) (c .before .before .loop .x) (c .before .before .before .args .y) (omega arith) (omega arith))
 
-array-write-r : tie.Need-array-write-r Inv-loop μ-loop
-array-write-r c = search needs
-
-add-x : tie.Need-add-x Inv-loop μ-loop
-add-x c = search needs
-
-loop-less : tie.Need-loop-less Inv-loop μ-loop
-loop-less c = search needs
-
 loop-again : tie.Need-loop-again Inv-loop μ-loop
 loop-again c = (search needs, fill-by capacity _ _ 0 (c .before .before .loop .inv .1) refl (omega arith))
 
@@ -55,8 +46,8 @@ row-spec =
     mul-r
     add-r
     shared-slice-read-r
-    array-write-r
-    add-x
-    loop-less
+    (λ c. search needs)
+    (λ c. search needs)
+    (λ c. search needs)
     loop-again
     returns)

@@ -1,4 +1,4 @@
--- `rows_of` meets its contract: after y rows the first y are filled. Assumes nothing.
+-- `rows_of` meets its contract: after y rows the first y are filled.
 use Prim.Native.Nat.{_-_, _≤_}
 use mathlib.Core.Path.{_≡_, sym}
 use native.Mathlib.Omega.{arith}
@@ -17,24 +17,6 @@ Inv-loop n samples b₀ y₀ b y = (y ≤ n) × (b ≡ upto capacity y (λ j. up
 abbrev μ-loop : tie.MeasureT-loop
 μ-loop n samples b₀ y₀ b y = n - y
 
-loop-holds : tie.Need-loop-holds Inv-loop μ-loop
-loop-holds c = (omega arith, sym (upto-none capacity _ (replicate capacity 0)))
-
-row-requires : tie.Need-row-requires Inv-loop μ-loop
-row-requires c κs = search needs
-
-mul-b : tie.Need-mul-b Inv-loop μ-loop
-mul-b c = search needs
-
-array-set-from-b : tie.Need-array-set-from-b Inv-loop μ-loop
-array-set-from-b c = search needs
-
-add-y : tie.Need-add-y Inv-loop μ-loop
-add-y c = search needs
-
-loop-less : tie.Need-loop-less Inv-loop μ-loop
-loop-less c = search needs
-
 loop-again : tie.Need-loop-again Inv-loop μ-loop
 loop-again c =
     (search needs, fill-by capacity _ _ (replicate capacity 0) (c .before .before .loop .inv .1) (c .row .ensures) (omega arith))
@@ -49,11 +31,11 @@ rows-of-spec =
     (tie.spec
     Inv-loop
     μ-loop
-    loop-holds
-    row-requires
-    mul-b
-    array-set-from-b
-    add-y
-    loop-less
+    (λ c. (omega arith, sym (upto-none capacity _ (replicate capacity 0))))
+    (λ c κs. search needs)
+    (λ c. search needs)
+    (λ c. search needs)
+    (λ c. search needs)
+    (λ c. search needs)
     loop-again
     returns)

@@ -1,4 +1,4 @@
--- `write_block` meets its contract: the refusal with the slice as it was, or the samples. Assumes nothing.
+-- `write_block` meets its contract: the refusal with the slice as it was, or the samples.
 use mathlib.Core.Path.{_≡_, sym, _∙_}
 use borrow.Author.Needs.{needs}
 use lib.ListN.{length}
@@ -9,9 +9,6 @@ use Rattle.block.specs.Block.{samplesOf}
 use Rattle.pattern.proofs.AnswerLaws.{samples-fit}
 use Rattle.block.proofs.rows.write_block.Statement.{statement}
 use Rattle.block.proofs.rows.write_block.Tie as tie
-
-samples-refusal-requires : tie.Need-samples-refusal-requires
-samples-refusal-requires c κs = tt
 
 returns : tie.Need-returns
 unfolding samplesAfter
@@ -30,9 +27,6 @@ put-samples-requires c κs =
     let f = samples-fit (a .n) (length (a .samples .now)) (none (c .before)) in
     (f .high, f .square)
 
-same-length : tie.Need-same-length
-same-length c = search needs
-
 returns-2 : tie.Need-returns-2
 unfolding samplesAfter
 returns-2 c =
@@ -46,4 +40,4 @@ returns-2 c =
 pub write-block-spec : {M : Type 1} → statement M
 write-block-spec =
     tie.close
-    (tie.spec samples-refusal-requires returns put-samples-requires same-length returns-2)
+    (tie.spec (λ c κs. tt) returns put-samples-requires (λ c. search needs) returns-2)

@@ -1,9 +1,9 @@
--- `choose` meets its contract: the refusal, or what was picked; and an answer that is the definition's is least. Assumes nothing.
-use mathlib.Core.Path.{_≡_, sym, _∙_}
+-- `choose` meets its contract: the refusal, or what was picked; and an answer that is the definition's is least.
+use mathlib.Core.Path.{_≡_, refl, sym, _∙_}
 use Rattle.pattern.specs.Words.{patternsOf}
-use Rattle.choice_checks.specs.Case.{Case, caseOf}
-use Rattle.choice_checks.specs.Refusal.{chooseRefusal}
-use Rattle.choice_checks.proofs.AcceptLaws.{accepted}
+use Rattle.choice.specs.Case.{Case, caseOf}
+use Rattle.choice.specs.Refusal.{chooseRefusal}
+use Rattle.choice.proofs.AcceptLaws.{accepted}
 use Rattle.choice.specs.Picked.{PickedOf}
 use Rattle.choice.proofs.AnswerLaws.{picked-small, told-refused, told-given, told-least}
 use Rattle.choice.proofs.answer.choose.Statement.{statement}
@@ -15,17 +15,11 @@ given c =
     let a = c .args in
     caseOf (a .n) (patternsOf (a .n) (a .list .now)) (a .count) (a .border .now) (a .original .now) (a .table .now) (a .reach) (a .texture .now)
 
-choose-refusal-requires : tie.Need-choose-refusal-requires
-choose-refusal-requires c κs = tt
-
 returns : tie.Need-returns
 returns c =
     let C = given (c .before .before .before .before .before .before .before) in
     let e = told-refused C (c .before .choose-refusal .ensures) (c .if1 .taken) in
     (e, told-least C e)
-
-wide-requires : tie.Need-wide-requires
-wide-requires c κs = tt
 
 best-pattern-requires : tie.Need-best-pattern-requires
 best-pattern-requires c κs = rw (c .wide .ensures) (sym (c .before .before .choose-refusal .ensures) ∙ c .before .if1 .left)
@@ -48,16 +42,16 @@ record-of-requires c κs =
 returns-2 : tie.Need-returns-2
 returns-2 c =
     let C = given (c .before .before .before .before .before .before .before .before .before .before) in
-    let e = told-given C (passes (c .before)) (picked (c .before)) (c .record-of .ensures .0) (c .record-of .ensures .1) in
+    let e = told-given C (passes (c .before)) (picked (c .before)) (c .record-of .ensures) refl in
     (e, told-least C e)
 
 pub choose-spec : {M : Type 1} → statement M
 choose-spec =
     tie.close
     (tie.spec
-    choose-refusal-requires
+    (λ c κs. tt)
     returns
-    wide-requires
+    (λ c κs. tt)
     best-pattern-requires
     record-of-requires
     returns-2)

@@ -1,4 +1,4 @@
--- `offset_of` meets its contract: half of an even number, and one less than minus half of an odd one. Assumes nothing.
+-- `offset_of` meets its contract: half of an even number, and one less than minus half of an odd one.
 use Prim.Native.Nat.{ℕ, zero, suc, _/_}
 use mathlib.Core.Path.{_≡_, refl, ap}
 use native.Mathlib.Omega.{arith}
@@ -15,9 +15,6 @@ minus-one : (k : ℕ) → negsuc 0 -ℤ pos k ≡ negsuc k
 minus-one zero = refl
 minus-one (suc k) = ap (λ (n : ℕ). negsuc (suc n)) (zero-add k)
 
-cast-half : tie.Need-cast-half
-cast-half c = search needs
-
 sub-result : tie.Need-sub-result
 sub-result c = rw (toZ-pos w32 {n = c .before .args .t / 2} (omega arith), minus-one) (record { sfits = omega arith })
 
@@ -30,4 +27,4 @@ returns-2 c =
     (toZ-ofZ {w = w32} {z = negsuc (c .before .args .t / 2)} (record { sfits = omega arith }))
 
 pub offset-of-spec : {M : Type 1} → statement M
-offset-of-spec = tie.close (tie.spec cast-half sub-result returns returns-2)
+offset-of-spec = tie.close (tie.spec (λ c. search needs) sub-result returns returns-2)

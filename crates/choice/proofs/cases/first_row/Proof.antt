@@ -1,22 +1,10 @@
--- `first_row` meets its contract: two digits, one of them shifted to the end of the row. Assumes nothing.
+-- `first_row` meets its contract: two digits, one of them shifted to the end of the row.
 use borrow.Author.Needs.{needs}
 use Prim.Native.Nat.{_/_, _%_}
 use lib.Dec.{eqb}
 use Rattle.choice.proofs.CaseLaws.{row-fits, row-by}
 use Rattle.choice.proofs.cases.first_row.Statement.{statement}
 use Rattle.choice.proofs.cases.first_row.Tie as tie
-
-differing-requires : tie.Need-differing-requires
-differing-requires c κs = search needs
-
-differing-requires-2 : tie.Need-differing-requires-2
-differing-requires-2 c κs = search needs
-
-sub-result : tie.Need-sub-result
-sub-result c = search needs
-
-shl-result : tie.Need-shl-result
-shl-result c = search needs
 
 add-result : tie.Need-add-result
 add-result c =
@@ -33,4 +21,4 @@ returns c =
 pub first-row-spec : {M : Type 1} → statement M
 first-row-spec =
     tie.close
-    (tie.spec differing-requires differing-requires-2 sub-result shl-result add-result returns)
+    (tie.spec (λ c κs. search needs) (λ c κs. search needs) (λ c. search needs) (λ c. search needs) add-result returns)

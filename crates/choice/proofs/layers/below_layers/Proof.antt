@@ -1,11 +1,11 @@
--- `below_layers` meets its contract: the words before the next are there. Assumes nothing.
+-- `below_layers` meets its contract: the words before the next are there.
 use native.Mathlib.Omega.{arith}
 use borrow.Author.Needs.{needs}
 use Prim.Native.Nat.{_+_, _-_, _≤_}
 use mathlib.Core.Path.{_≡_, refl}
 use lib.ListN.{length, replicate, length-set, getD-replicate}
-use Rattle.side_cost.specs.Layers.{BelowWords}
-use Rattle.side_cost.proofs.BuildLaws.{below-first, below-fits, below-more, below-joined}
+use Rattle.choice.specs.Layers.{BelowWords}
+use Rattle.choice.proofs.BuildLaws.{below-first, below-fits, below-more, below-joined}
 use Rattle.choice.proofs.layers.below_layers.Statement.{statement}
 use Rattle.choice.proofs.layers.below_layers.Tie as tie
 
@@ -15,44 +15,14 @@ Inv-loop samples equal layers₀ at₀ layers at = (at ≤ 1024) × (length laye
 abbrev μ-loop : tie.MeasureT-loop
 μ-loop samples equal layers₀ at₀ layers at = 1024 - at
 
-equal-layers-requires : tie.Need-equal-layers-requires Inv-loop μ-loop
-equal-layers-requires c κs = search needs
-
 loop-holds : tie.Need-loop-holds Inv-loop μ-loop
 loop-holds c = (omega arith, refl, below-first (c .before .before .args .samples .now) (replicate 1028 0) (λ a h. getD-replicate 1028 a 0 0 (omega arith)))
-
-mul-layers : tie.Need-mul-layers Inv-loop μ-loop
-mul-layers c = search needs
-
-array-read-layers : tie.Need-array-read-layers Inv-loop μ-loop
-array-read-layers c = search needs
-
-mul-layers-2 : tie.Need-mul-layers-2 Inv-loop μ-loop
-mul-layers-2 c = search needs
-
-array-read-layers-2 : tie.Need-array-read-layers-2 Inv-loop μ-loop
-array-read-layers-2 c = search needs
 
 add-layers : tie.Need-add-layers Inv-loop μ-loop
 add-layers c =
     let s = c .before .before .before .before in
     let l = c .before .loop in
     record { fits = below-fits (s .args .samples .now) (l .at) _ _ (l .layers) (l .inv .2) refl (c .before .before .equal-layers .ensures .1 (l .at) (omega arith)) }
-
-add-layers-2 : tie.Need-add-layers-2 Inv-loop μ-loop
-add-layers-2 c = search needs
-
-mul-layers-3 : tie.Need-mul-layers-3 Inv-loop μ-loop
-mul-layers-3 c = search needs
-
-array-write-layers : tie.Need-array-write-layers Inv-loop μ-loop
-array-write-layers c = search needs
-
-add-at : tie.Need-add-at Inv-loop μ-loop
-add-at c = search needs
-
-loop-less : tie.Need-loop-less Inv-loop μ-loop
-loop-less c = search needs
 
 loop-again : tie.Need-loop-again Inv-loop μ-loop
 loop-again c =
@@ -75,17 +45,17 @@ below-layers-spec =
     (tie.spec
     Inv-loop
     μ-loop
-    equal-layers-requires
+    (λ c κs. search needs)
     loop-holds
-    mul-layers
-    array-read-layers
-    mul-layers-2
-    array-read-layers-2
+    (λ c. search needs)
+    (λ c. search needs)
+    (λ c. search needs)
+    (λ c. search needs)
     add-layers
-    add-layers-2
-    mul-layers-3
-    array-write-layers
-    add-at
-    loop-less
+    (λ c. search needs)
+    (λ c. search needs)
+    (λ c. search needs)
+    (λ c. search needs)
+    (λ c. search needs)
     loop-again
     returns)

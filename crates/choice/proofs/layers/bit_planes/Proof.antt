@@ -1,4 +1,4 @@
--- `bit_planes` meets its contract: the words so far are there. Assumes nothing.
+-- `bit_planes` meets its contract: the words so far are there.
 use native.Mathlib.Omega.{arith}
 use borrow.Author.Needs.{needs}
 use Prim.Native.Nat.{_-_, _/_, _%_, _≤_}
@@ -6,8 +6,8 @@ use mathlib.Core.Path.{_≡_}
 use lib.ListN.{length, getD, length-set}
 use Rattle.arith.specs.Bits.{testBit}
 use Rattle.arith.proofs.ListLaws.{stored}
-use Rattle.side_cost.specs.Layers.{wordOf, PlaneWords}
-use Rattle.side_cost.proofs.BuildLaws.{planes-joined}
+use Rattle.choice.specs.Layers.{wordOf, PlaneWords}
+use Rattle.choice.proofs.BuildLaws.{planes-joined}
 use Rattle.choice.proofs.layers.bit_planes.Statement.{statement}
 use Rattle.choice.proofs.layers.bit_planes.Tie as tie
 
@@ -16,27 +16,6 @@ Inv-loop samples layers₀ at₀ layers at = (at ≤ 32) × (length layers ≡ 3
 
 abbrev μ-loop : tie.MeasureT-loop
 μ-loop samples layers₀ at₀ layers at = 32 - at
-
-loop-holds : tie.Need-loop-holds Inv-loop μ-loop
-loop-holds c = search needs
-
-sub-plane : tie.Need-sub-plane Inv-loop μ-loop
-sub-plane c = search needs
-
-plane-requires : tie.Need-plane-requires Inv-loop μ-loop
-plane-requires c κs = search needs
-
-mul-layers : tie.Need-mul-layers Inv-loop μ-loop
-mul-layers c = search needs
-
-array-write-layers : tie.Need-array-write-layers Inv-loop μ-loop
-array-write-layers c = search needs
-
-add-at : tie.Need-add-at Inv-loop μ-loop
-add-at c = search needs
-
-loop-less : tie.Need-loop-less Inv-loop μ-loop
-loop-less c = search needs
 
 loop-again : tie.Need-loop-again Inv-loop μ-loop
 loop-again c =
@@ -59,12 +38,12 @@ bit-planes-spec =
     (tie.spec
     Inv-loop
     μ-loop
-    loop-holds
-    sub-plane
-    plane-requires
-    mul-layers
-    array-write-layers
-    add-at
-    loop-less
+    (λ c. search needs)
+    (λ c. search needs)
+    (λ c κs. search needs)
+    (λ c. search needs)
+    (λ c. search needs)
+    (λ c. search needs)
+    (λ c. search needs)
     loop-again
     returns)

@@ -1,4 +1,4 @@
--- `plane` meets its contract: after j samples the word has the first j bits. Assumes nothing.
+-- `plane` meets its contract: after j samples the word has the first j bits.
 use native.Mathlib.Omega.{arith}
 use borrow.Author.Needs.{needs}
 use borrow.Author.Tests.{eq-eqb, ne-eqb}
@@ -17,39 +17,12 @@ Inv-loop samples i b count word₀ j₀ word j = (j ≤ count) × (word ≡ bits
 abbrev μ-loop : tie.MeasureT-loop
 μ-loop samples i b count word₀ j₀ word j = count - j
 
-in-word-requires : tie.Need-in-word-requires Inv-loop μ-loop
-in-word-requires c κs = search needs
-
 loop-holds : tie.Need-loop-holds Inv-loop μ-loop
 unfolding bits
 loop-holds c = search needs
 
-mul-wide : tie.Need-mul-wide Inv-loop μ-loop
-mul-wide c = search needs
-
-add-wide : tie.Need-add-wide Inv-loop μ-loop
-add-wide c = search needs
-
-shared-slice-read-wide : tie.Need-shared-slice-read-wide Inv-loop μ-loop
-shared-slice-read-wide c = search needs
-
-wide-requires : tie.Need-wide-requires Inv-loop μ-loop
-wide-requires c κs = tt
-
-shr-if1 : tie.Need-shr-if1 Inv-loop μ-loop
-shr-if1 c = search needs
-
-shl-word : tie.Need-shl-word Inv-loop μ-loop
-shl-word c = search needs
-
 add-word : tie.Need-add-word Inv-loop μ-loop
 add-word c = let l = c .before .before .before .before .loop in record { fits = room-above _ (l .j) (omega arith) (l .inv .1) }
-
-add-j : tie.Need-add-j Inv-loop μ-loop
-add-j c = search needs
-
-loop-less : tie.Need-loop-less Inv-loop μ-loop
-loop-less c = search needs
 
 loop-again : tie.Need-loop-again Inv-loop μ-loop
 loop-again c =
@@ -77,16 +50,16 @@ plane-spec =
     (tie.spec
     Inv-loop
     μ-loop
-    in-word-requires
+    (λ c κs. search needs)
     loop-holds
-    mul-wide
-    add-wide
-    shared-slice-read-wide
-    wide-requires
-    shr-if1
-    shl-word
+    (λ c. search needs)
+    (λ c. search needs)
+    (λ c. search needs)
+    (λ c κs. tt)
+    (λ c. search needs)
+    (λ c. search needs)
     add-word
-    add-j
-    loop-less
+    (λ c. search needs)
+    (λ c. search needs)
     loop-again
     returns)

@@ -1,4 +1,4 @@
--- `best_down` meets its contract: the turn, and the better of the two levels next to it. Assumes nothing.
+-- `best_down` meets its contract: the turn, and the better of the two levels next to it.
 use native.Mathlib.Omega.{arith}
 use borrow.Author.Needs.{needs}
 use Prim.Native.Nat.{_+_}
@@ -8,8 +8,8 @@ use mathlib.Core.Path.{_≡_}
 use lib.ListN.{length, getD}
 use Rattle.depth_table.proofs.TableLaws.{table-counts}
 use Rattle.pattern.specs.Words.{patternNumber}
-use Rattle.side_cost.proofs.FindLaws.{cost-by, better-by, better-small, down-adjacent}
-use Rattle.side_cost.proofs.TallyLaws.{count-le}
+use Rattle.choice.proofs.FindLaws.{cost-by, better-by, better-small, down-adjacent}
+use Rattle.choice.proofs.TallyLaws.{count-le}
 use Rattle.choice.proofs.offsets.best_down.Statement.{statement}
 use Rattle.choice.proofs.offsets.best_down.Tie as tie
 
@@ -22,34 +22,10 @@ add-turn c =
 turn-requires : tie.Need-turn-requires
 turn-requires c κs = let s = c .before .before .before in (s .pre .1, omega arith, s .pre .3, s .pre .4, table-counts _ (s .pre .2) .1)
 
-add-next : tie.Need-add-next
-add-next c = search needs
-
-shared-slice-read-wide : tie.Need-shared-slice-read-wide
-shared-slice-read-wide c = search needs
-
-wide-requires : tie.Need-wide-requires
-wide-requires c κs = search needs
-
-shared-slice-read-wide-2 : tie.Need-shared-slice-read-wide-2
-shared-slice-read-wide-2 c = search needs
-
-wide-requires-2 : tie.Need-wide-requires-2
-wide-requires-2 c κs = search needs
-
-cost-at-requires : tie.Need-cost-at-requires
-cost-at-requires c κs = search needs
-
-sub-number-down : tie.Need-sub-number-down
-sub-number-down c = search needs
-
 number-down-requires : tie.Need-number-down-requires
 number-down-requires c κs =
     let s = c .before .before .before .before .before .before .before .before .before in
     omega (arith, s .pre .4, table-counts _ (s .pre .2) .1)
-
-add-if1 : tie.Need-add-if1
-add-if1 c = search needs
 
 returns : tie.Need-returns
 returns c =
@@ -65,19 +41,10 @@ returns c =
     let less = down-adjacent _ _ _ _ _ (s .pre .0) (a .table .now) (a .at) 0 (record { sound = s .pre .2; inside = s .pre .4; near = omega arith }) l (a .end) (s .pre .5) (t .turn .ensures) next in
     (record { l = l; turned = t .turn .ensures; better = inl (less, k .number-down .ensures, far) }, k .before .cost-at .ensures .1)
 
-cost-at-requires-2 : tie.Need-cost-at-requires-2
-cost-at-requires-2 c κs = search needs
-
-sub-number-down-2 : tie.Need-sub-number-down-2
-sub-number-down-2 c = search needs
-
 number-down-requires-2 : tie.Need-number-down-requires-2
 number-down-requires-2 c κs =
     let s = c .before .before .before .before .before .before .before .before .before .before .before .before in
     omega (arith, s .pre .4, table-counts _ (s .pre .2) .1)
-
-better-requires : tie.Need-better-requires
-better-requires c κs = search needs
 
 returns-2 : tie.Need-returns-2
 returns-2 c =
@@ -98,18 +65,18 @@ best-down-spec =
     (tie.spec
     add-turn
     turn-requires
-    add-next
-    shared-slice-read-wide
-    wide-requires
-    shared-slice-read-wide-2
-    wide-requires-2
-    cost-at-requires
-    sub-number-down
+    (λ c. search needs)
+    (λ c. search needs)
+    (λ c κs. search needs)
+    (λ c. search needs)
+    (λ c κs. search needs)
+    (λ c κs. search needs)
+    (λ c. search needs)
     number-down-requires
-    add-if1
+    (λ c. search needs)
     returns
-    cost-at-requires-2
-    sub-number-down-2
+    (λ c κs. search needs)
+    (λ c. search needs)
     number-down-requires-2
-    better-requires
+    (λ c κs. search needs)
     returns-2)

@@ -1,4 +1,4 @@
--- `best_of_part` meets its contract: upward, downward, or neither. Assumes nothing.
+-- `best_of_part` meets its contract: upward, downward, or neither.
 use native.Mathlib.Omega.{arith}
 use borrow.Author.Needs.{needs}
 use Prim.Native.Nat.{ℕ, _+_, _-_, _*_, _≤_, _<_, min}
@@ -9,10 +9,10 @@ use lib.Count.{ones}
 use lib.Dec.{ltb}
 use lib.ListN.{length, getD}
 use Rattle.pattern.specs.Words.{patternNumber}
-use Rattle.side_cost.specs.Layers.{layerAt, Fits, Parted}
-use Rattle.side_cost.specs.Turn.{twice}
-use Rattle.side_cost.proofs.LayerLaws.{size-count, fits-block}
-use Rattle.side_cost.proofs.FindLaws.{cost-by, twice-by, last-in, end-in, up-found, down-found, here-found}
+use Rattle.choice.specs.Layers.{layerAt, Fits, Parted}
+use Rattle.choice.specs.Turn.{twice}
+use Rattle.choice.proofs.LayerLaws.{size-count, fits-block}
+use Rattle.choice.proofs.FindLaws.{cost-by, twice-by, last-in, end-in, up-found, down-found, here-found}
 use Rattle.choice.proofs.offsets.best_of_part.Statement.{statement}
 use Rattle.choice.proofs.offsets.best_of_part.Tie as tie
 
@@ -48,40 +48,10 @@ more-down w e h =
 size-of-requires : tie.Need-size-of-requires
 size-of-requires c κs = fits (c .before .before)
 
-sub-lesser : tie.Need-sub-lesser
-sub-lesser c = search needs
-
-sub-lesser-2 : tie.Need-sub-lesser-2
-sub-lesser-2 c = search needs
-
-lesser-requires : tie.Need-lesser-requires
-lesser-requires c κs = search needs
-
-add-last : tie.Need-add-last
-add-last c = search needs
-
-lesser-requires-2 : tie.Need-lesser-requires-2
-lesser-requires-2 c κs = search needs
-
-sub-end : tie.Need-sub-end
-sub-end c = search needs
-
-shared-slice-read-wide : tie.Need-shared-slice-read-wide
-shared-slice-read-wide c = search needs
-
-wide-requires : tie.Need-wide-requires
-wide-requires c κs = search needs
-
-add-count-below : tie.Need-add-count-below
-add-count-below c = search needs
-
 count-below-requires : tie.Need-count-below-requires
 count-below-requires c κs =
     let w = c .before in
     (fits (w .before .before .before .before .before .before .before), omega (arith, w .wide .ensures .1))
-
-mul-if2 : tie.Need-mul-if2
-mul-if2 c = search needs
 
 best-up-requires : tie.Need-best-up-requires
 best-up-requires c κs =
@@ -108,9 +78,6 @@ count-below-requires-2 : tie.Need-count-below-requires-2
 count-below-requires-2 c κs =
     let w = c .before .before in
     (fits (w .before .before .before .before .before .before .before), omega (arith, w .wide .ensures .1))
-
-mul-if4 : tie.Need-mul-if4
-mul-if4 c = search needs
 
 best-down-requires : tie.Need-best-down-requires
 best-down-requires c κs =
@@ -172,21 +139,21 @@ best-of-part-spec =
     tie.close
     (tie.spec
     size-of-requires
-    sub-lesser
-    sub-lesser-2
-    lesser-requires
-    add-last
-    lesser-requires-2
-    sub-end
-    shared-slice-read-wide
-    wide-requires
-    add-count-below
+    (λ c. search needs)
+    (λ c. search needs)
+    (λ c κs. search needs)
+    (λ c. search needs)
+    (λ c κs. search needs)
+    (λ c. search needs)
+    (λ c. search needs)
+    (λ c κs. search needs)
+    (λ c. search needs)
     count-below-requires
-    mul-if2
+    (λ c. search needs)
     best-up-requires
     returns
     count-below-requires-2
-    mul-if4
+    (λ c. search needs)
     best-down-requires
     returns-2
     cost-at-requires

@@ -1,4 +1,4 @@
--- `best_up` meets its contract: the turn, and the better of the two levels next to it. Assumes nothing.
+-- `best_up` meets its contract: the turn, and the better of the two levels next to it.
 use native.Mathlib.Omega.{arith}
 use borrow.Author.Needs.{needs}
 use Prim.Native.Nat.{_+_}
@@ -7,39 +7,12 @@ use mathlib.Core.Path.{_≡_, refl}
 use lib.ListN.{getD}
 use Rattle.depth_table.proofs.TableLaws.{table-counts}
 use Rattle.pattern.specs.Words.{patternNumber}
-use Rattle.side_cost.proofs.FindLaws.{cost-by, better-by, better-small, up-adjacent}
+use Rattle.choice.proofs.FindLaws.{cost-by, better-by, better-small, up-adjacent}
 use Rattle.choice.proofs.offsets.best_up.Statement.{statement}
 use Rattle.choice.proofs.offsets.best_up.Tie as tie
 
 turn-requires : tie.Need-turn-requires
 turn-requires c κs = let s = c .before .before in (s .pre .1, omega arith, s .pre .3, s .pre .4, table-counts _ (s .pre .2) .1)
-
-add-next : tie.Need-add-next
-add-next c = search needs
-
-shared-slice-read-wide : tie.Need-shared-slice-read-wide
-shared-slice-read-wide c = search needs
-
-wide-requires : tie.Need-wide-requires
-wide-requires c κs = search needs
-
-shared-slice-read-wide-2 : tie.Need-shared-slice-read-wide-2
-shared-slice-read-wide-2 c = search needs
-
-wide-requires-2 : tie.Need-wide-requires-2
-wide-requires-2 c κs = search needs
-
-cost-at-requires : tie.Need-cost-at-requires
-cost-at-requires c κs = search needs
-
-sub-far-number : tie.Need-sub-far-number
-sub-far-number c = search needs
-
-mul-far-number : tie.Need-mul-far-number
-mul-far-number c = search needs
-
-add-if1 : tie.Need-add-if1
-add-if1 c = search needs
 
 returns : tie.Need-returns
 returns c =
@@ -53,18 +26,6 @@ returns c =
     let next : getD (a .table .now) (l + 1) 0 ≡ getD (a .table .now) l 0 + 1 = omega (arith, c .if1 .taken, w1 .wide .ensures .0, w2 .wide2 .ensures .0) in
     let less = up-adjacent _ _ _ _ _ (s .pre .0) (a .table .now) (a .at) 0 (record { sound = s .pre .2; inside = omega arith; near = omega arith }) l (a .last) (s .pre .5) (t .turn .ensures) next in
     (record { l = l; turned = t .turn .ensures; better = inl (less, refl, far) }, c .before .cost-at .ensures .1)
-
-cost-at-requires-2 : tie.Need-cost-at-requires-2
-cost-at-requires-2 c κs = search needs
-
-sub-near-number : tie.Need-sub-near-number
-sub-near-number c = search needs
-
-mul-near-number : tie.Need-mul-near-number
-mul-near-number c = search needs
-
-better-requires : tie.Need-better-requires
-better-requires c κs = search needs
 
 returns-2 : tie.Need-returns-2
 returns-2 c =
@@ -82,18 +43,18 @@ best-up-spec =
     tie.close
     (tie.spec
     turn-requires
-    add-next
-    shared-slice-read-wide
-    wide-requires
-    shared-slice-read-wide-2
-    wide-requires-2
-    cost-at-requires
-    sub-far-number
-    mul-far-number
-    add-if1
+    (λ c. search needs)
+    (λ c. search needs)
+    (λ c κs. search needs)
+    (λ c. search needs)
+    (λ c κs. search needs)
+    (λ c κs. search needs)
+    (λ c. search needs)
+    (λ c. search needs)
+    (λ c. search needs)
     returns
-    cost-at-requires-2
-    sub-near-number
-    mul-near-number
-    better-requires
+    (λ c κs. search needs)
+    (λ c. search needs)
+    (λ c. search needs)
+    (λ c κs. search needs)
     returns-2)

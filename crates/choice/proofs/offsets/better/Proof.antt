@@ -1,4 +1,4 @@
--- `better` meets its contract: one side of it at each return. Assumes nothing.
+-- `better` meets its contract: one side of it at each return.
 use mathlib.Core.Logic.{inl, inr}
 use mathlib.Core.Path.{refl}
 use Rattle.choice.proofs.offsets.better.Statement.{statement}

@@ -1,12 +1,12 @@
--- `turn` meets its contract: low falls or is the first, high does not fall or is the last. Assumes nothing.
+-- `turn` meets its contract: low falls or is the first, high does not fall or is the last.
 use native.Mathlib.Omega.{arith}
 use borrow.Author.Needs.{needs}
 use Prim.Native.Nat.{ℕ, _+_, _-_, _/_, _≤_, _<_}
 use mathlib.Core.Path.{_≡_, refl, ap}
 use mathlib.Core.Logic.{_⊎_, inl, inr}
 use Rattle.pattern.specs.Words.{patternNumber}
-use Rattle.side_cost.specs.Turn.{twice}
-use Rattle.side_cost.proofs.FindLaws.{twice-by}
+use Rattle.choice.specs.Turn.{twice}
+use Rattle.choice.proofs.FindLaws.{twice-by}
 use Rattle.choice.proofs.offsets.turn.Statement.{statement}
 use Rattle.choice.proofs.offsets.turn.Tie as tie
 
@@ -19,38 +19,11 @@ abbrev μ-loop : tie.MeasureT-loop
 loop-holds : tie.Need-loop-holds Inv-loop μ-loop
 loop-holds c = (omega arith, omega arith, omega arith, inl refl, inl refl)
 
-add-loop : tie.Need-add-loop Inv-loop μ-loop
-add-loop c = search needs
-
-add-middle : tie.Need-add-middle Inv-loop μ-loop
-add-middle c = search needs
-
-shared-slice-read-wide : tie.Need-shared-slice-read-wide Inv-loop μ-loop
-shared-slice-read-wide c = search needs
-
-wide-requires : tie.Need-wide-requires Inv-loop μ-loop
-wide-requires c κs = tt
-
-add-count-below : tie.Need-add-count-below Inv-loop μ-loop
-add-count-below c = search needs
-
-count-below-requires : tie.Need-count-below-requires Inv-loop μ-loop
-count-below-requires c κs = search needs
-
-mul-if1 : tie.Need-mul-if1 Inv-loop μ-loop
-mul-if1 c = search needs
-
-loop-less : tie.Need-loop-less Inv-loop μ-loop
-loop-less c = search needs
-
 loop-again : tie.Need-loop-again Inv-loop μ-loop
 loop-again c =
     let a = c .before .before .before .before .before .before .before .args in
     let l = c .before .before .before .before .before .loop in
     (omega arith, omega arith, omega arith, inr (omega (arith, twice-by (a .below .now) (patternNumber (a .part .marks)) (a .table .now) (a .plus) ((l .low + l .high) / 2) (c .before .count-below .ensures .0) (ap (λ (x : ℕ). x + a .plus) (c .before .before .wide .ensures .0)))), l .inv .4)
-
-loop-less-2 : tie.Need-loop-less-2 Inv-loop μ-loop
-loop-less-2 c = search needs
 
 loop-again-2 : tie.Need-loop-again-2 Inv-loop μ-loop
 loop-again-2 c =
@@ -71,15 +44,15 @@ turn-spec =
     Inv-loop
     μ-loop
     loop-holds
-    add-loop
-    add-middle
-    shared-slice-read-wide
-    wide-requires
-    add-count-below
-    count-below-requires
-    mul-if1
-    loop-less
+    (λ c. search needs)
+    (λ c. search needs)
+    (λ c. search needs)
+    (λ c κs. tt)
+    (λ c. search needs)
+    (λ c κs. search needs)
+    (λ c. search needs)
+    (λ c. search needs)
     loop-again
-    loop-less-2
+    (λ c. search needs)
     loop-again-2
     returns)

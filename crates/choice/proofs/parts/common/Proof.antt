@@ -1,7 +1,7 @@
--- `common` meets its contract: the samples shared word by word, or in the one word. Assumes nothing.
+-- `common` meets its contract: the samples shared word by word, or in the one word.
 use native.Mathlib.Omega.{arith}
 use borrow.Author.Needs.{needs}
-use Rattle.side_cost.proofs.LayerLaws.{four-common, one-common, common-le}
+use Rattle.choice.proofs.LayerLaws.{four-common, one-common, common-le}
 use Rattle.choice.proofs.parts.common.Statement.{statement}
 use Rattle.choice.proofs.parts.common.Tie as tie
 

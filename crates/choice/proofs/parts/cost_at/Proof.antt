@@ -1,11 +1,11 @@
--- `cost_at` meets its contract: the flipped sum and the counts give the cost. Assumes nothing.
+-- `cost_at` meets its contract: the flipped sum and the counts give the cost.
 use native.Mathlib.Omega.{arith}
 use borrow.Author.Needs.{needs}
 use mathlib.Core.Bool.{true}
 use lib.ListN.{length}
 use Rattle.pattern.specs.Words.{patternNumber}
-use Rattle.side_cost.specs.Cost.{sideCost}
-use Rattle.side_cost.proofs.BuildLaws.{Sums, sums-at}
+use Rattle.choice.specs.Cost.{sideCost}
+use Rattle.choice.proofs.BuildLaws.{Sums, sums-at}
 use Rattle.choice.proofs.parts.cost_at.Statement.{statement}
 use Rattle.choice.proofs.parts.cost_at.Tie as tie
 
@@ -17,15 +17,6 @@ facts c =
     let k = c .before .before in
     let s = k .before in
     rw (c .before .count-below .ensures .0, c .flipped-sum .ensures) (sums-at _ _ _ _ _ (s .pre .0) (s .args .v) (s .pre .2) (λ i. k .shared-slice-known .given i .fits))
-
-cast-value : tie.Need-cast-value
-cast-value c = search needs
-
-count-below-requires : tie.Need-count-below-requires
-count-below-requires c κs = search needs
-
-flipped-sum-requires : tie.Need-flipped-sum-requires
-flipped-sum-requires c κs = search needs
 
 mul-result : tie.Need-mul-result
 mul-result c = omega (arith, facts c)
@@ -55,9 +46,9 @@ pub cost-at-spec : {M : Type 1} → statement M
 cost-at-spec =
     tie.close
     (tie.spec
-    cast-value
-    count-below-requires
-    flipped-sum-requires
+    (λ c. search needs)
+    (λ c κs. search needs)
+    (λ c κs. search needs)
     mul-result
     mul-result-2
     add-result

@@ -1,4 +1,4 @@
--- `flipped_sum` meets its contract: after b bits the sum is that of the samples without their lowest 8 - b bits. Assumes nothing.
+-- `flipped_sum` meets its contract: after b bits the sum is that of the samples without their lowest 8 - b bits.
 use native.Mathlib.Omega.{arith}
 use borrow.Author.Needs.{needs}
 use Prim.Native.Nat.{ℕ, _-_, _≤_}
@@ -7,8 +7,8 @@ use lib.Bits.{bitAnd, bitXor}
 use lib.Count.{ones}
 use lib.ListN.{length}
 use Rattle.pattern.specs.Words.{patternNumber}
-use Rattle.side_cost.specs.Layers.{flipped, partSum}
-use Rattle.side_cost.proofs.BuildLaws.{sum-turn, sum-small, sum-none}
+use Rattle.choice.specs.Layers.{flipped, partSum}
+use Rattle.choice.proofs.BuildLaws.{sum-turn, sum-small, sum-none}
 use Rattle.choice.proofs.parts.flipped_sum.Statement.{statement}
 use Rattle.choice.proofs.parts.flipped_sum.Tie as tie
 
@@ -26,9 +26,6 @@ small c =
     let p = k .before .pre in
     omega (arith, c .before .loop .inv .1, sum-small _ _ _ (p .0) (λ i. k .shared-slice-known .given i .fits) _ (p .1) _ (p .3) (8 - c .before .loop .b))
 
-below-at-requires : tie.Need-below-at-requires Inv-loop μ-loop
-below-at-requires c κs = search needs
-
 loop-holds : tie.Need-loop-holds Inv-loop μ-loop
 loop-holds c =
     let k = c .before .before in
@@ -38,23 +35,8 @@ loop-holds c =
 mul-sum : tie.Need-mul-sum Inv-loop μ-loop
 mul-sum c = omega (arith, small c)
 
-plane-at-requires : tie.Need-plane-at-requires Inv-loop μ-loop
-plane-at-requires c κs = search needs
-
-inverted-requires : tie.Need-inverted-requires Inv-loop μ-loop
-inverted-requires c κs = tt
-
-common-requires : tie.Need-common-requires Inv-loop μ-loop
-common-requires c κs = search needs
-
 add-sum : tie.Need-add-sum Inv-loop μ-loop
 add-sum c = omega (arith, small (c .before .before .before), c .common .ensures .1)
-
-add-b : tie.Need-add-b Inv-loop μ-loop
-add-b c = search needs
-
-loop-less : tie.Need-loop-less Inv-loop μ-loop
-loop-less c = search needs
 
 loop-again : tie.Need-loop-again Inv-loop μ-loop
 loop-again c =
@@ -80,14 +62,14 @@ flipped-sum-spec =
     (tie.spec
     Inv-loop
     μ-loop
-    below-at-requires
+    (λ c κs. search needs)
     loop-holds
     mul-sum
-    plane-at-requires
-    inverted-requires
-    common-requires
+    (λ c κs. search needs)
+    (λ c κs. tt)
+    (λ c κs. search needs)
     add-sum
-    add-b
-    loop-less
+    (λ c. search needs)
+    (λ c. search needs)
     loop-again
     returns)

@@ -1,6 +1,6 @@
--- `inverted` meets its contract: word by word. Assumes nothing.
+-- `inverted` meets its contract: word by word.
 use borrow.Author.Needs.{needs}
-use Rattle.side_cost.proofs.LayerLaws.{four-xor}
+use Rattle.choice.proofs.LayerLaws.{four-xor}
 use Rattle.choice.proofs.parts.inverted.Statement.{statement}
 use Rattle.choice.proofs.parts.inverted.Tie as tie
 

@@ -1,4 +1,4 @@
--- `side_marks` meets its contract, return by return. Assumes nothing.
+-- `side_marks` meets its contract, return by return.
 use borrow.Author.Needs.{needs}
 use Prim.Native.Nat.{ℕ}
 use mathlib.Core.Path.{ap, _∙_}
@@ -10,16 +10,10 @@ use Rattle.choice.proofs.parts.side_marks.Tie as tie
 returns : tie.Need-returns
 returns c = rw (c .if1 .taken)
 
-below-at-requires : tie.Need-below-at-requires
-below-at-requires c κs = search needs
-
-inverted-requires : tie.Need-inverted-requires
-inverted-requires c κs = search needs
-
 returns-2 : tie.Need-returns-2
 returns-2 c =
     let p = c .before .before .before .args .p in
     rw (c .before .before .if1 .left) (c .inverted .ensures ∙ ap (λ (x : ℕ). bitXor x (patternNumber p)) (c .before .below-at .ensures))
 
 pub side-marks-spec : {M : Type 1} → statement M
-side-marks-spec = tie.close (tie.spec returns below-at-requires inverted-requires returns-2)
+side-marks-spec = tie.close (tie.spec returns (λ c κs. search needs) (λ c κs. search needs) returns-2)

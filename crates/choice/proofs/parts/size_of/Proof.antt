@@ -1,4 +1,4 @@
--- `size_of` meets its contract: the marks of all words, or of the one word. Assumes nothing.
+-- `size_of` meets its contract: the marks of all words, or of the one word.
 use native.Mathlib.Omega.{arith}
 use borrow.Author.Needs.{needs}
 use mathlib.Core.Path.{sym, ap}
@@ -6,12 +6,6 @@ use lib.Count.{ones, ones-le}
 use Rattle.pattern.proofs.WordLaws.{first-word}
 use Rattle.choice.proofs.parts.size_of.Statement.{statement}
 use Rattle.choice.proofs.parts.size_of.Tie as tie
-
-marks-requires : tie.Need-marks-requires
-marks-requires c κs = search needs
-
-returns : tie.Need-returns
-returns c = search needs
 
 returns-2 : tie.Need-returns-2
 returns-2 c =
@@ -22,4 +16,4 @@ returns-2 c =
     )
 
 pub size-of-spec : {M : Type 1} → statement M
-size-of-spec = tie.close (tie.spec marks-requires returns returns-2)
+size-of-spec = tie.close (tie.spec (λ c κs. search needs) (λ c. search needs) returns-2)

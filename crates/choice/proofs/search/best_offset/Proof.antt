@@ -1,19 +1,10 @@
--- `best_offset` meets its contract: the part is the partition, and the index that of its depth. Assumes nothing.
+-- `best_offset` meets its contract: the part is the partition, and the index that of its depth.
 use borrow.Author.Needs.{needs}
 use Prim.Native.Nat.{ℕ, _<_}
 use lib.ListN.{getD}
 use Rattle.choice.proofs.WeighLaws.{part-small, findable, trial-weighed}
 use Rattle.choice.proofs.search.best_offset.Statement.{statement}
 use Rattle.choice.proofs.search.best_offset.Tie as tie
-
-side-marks-requires : tie.Need-side-marks-requires
-side-marks-requires c κs = tt
-
-mul-at : tie.Need-mul-at
-mul-at c = search needs
-
-element-copy-out-at : tie.Need-element-copy-out-at
-element-copy-out-at c = search needs
 
 best-of-part-requires : tie.Need-best-of-part-requires
 best-of-part-requires c κs =
@@ -40,8 +31,8 @@ pub best-offset-spec : {M : Type 1} → statement M
 best-offset-spec =
     tie.close
     (tie.spec
-    side-marks-requires
-    mul-at
-    element-copy-out-at
+    (λ c κs. tt)
+    (λ c. search needs)
+    (λ c. search needs)
     best-of-part-requires
     returns)

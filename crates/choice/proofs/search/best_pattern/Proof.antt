@@ -1,4 +1,4 @@
--- `best_pattern` meets its contract: before turn p the first of least cost among the patterns 0 .. p - 1 is kept. Assumes nothing.
+-- `best_pattern` meets its contract: before turn p the first of least cost among the patterns 0 .. p - 1 is kept.
 use Prim.Native.Nat.{ℕ, _+_, _-_, _≤_}
 use mathlib.Core.Path.{_≡_, ap, _∙_}
 use mathlib.Core.Bool.{cond}
@@ -9,8 +9,8 @@ use lib.Dec.{ltb}
 use lib.ListN.{length}
 use Rattle.pattern.specs.Words.{patternsOf}
 use Rattle.pattern.proofs.SizeLaws.{size-bounds, square-256}
-use Rattle.choice_checks.specs.Case.{Case, caseOf}
-use Rattle.choice_checks.proofs.AcceptLaws.{Accepted, accepted}
+use Rattle.choice.specs.Case.{Case, caseOf}
+use Rattle.choice.proofs.AcceptLaws.{Accepted, accepted}
 use Rattle.choice.specs.Picked.{Prepared}
 use Rattle.choice.proofs.SearchLaws.{sides-at, texture-judged, pattern-by, last-le, weighable, KeptSides, sides-one, sides-new, sides-old, sides-all}
 use Rattle.choice.proofs.search.best_pattern.Statement.{statement}
@@ -49,7 +49,7 @@ bit-planes-requires c κs = few (c .before .before .before .before .before .befo
 case-indices-requires : tie.Need-case-indices-requires Inv-loop μ-loop
 case-indices-requires c κs =
     let k = fine (c .before .before .before .before .before .before .before) in
-    (k .size, k .lengths .bordered)
+    (k .size, k .lengths .bordered, k .sound)
 
 -- what is worked out once
 prepared : (c : tie.After-case-indices Inv-loop μ-loop) →
@@ -64,14 +64,8 @@ prepared c =
 contour-or-none-requires : tie.Need-contour-or-none-requires Inv-loop μ-loop
 contour-or-none-requires c κs = let k = fine (c .before .before .before .before .before .before .before .before) in texture-judged _ _ (k .size) (k .lengths .optional)
 
-last-pattern-requires : tie.Need-last-pattern-requires Inv-loop μ-loop
-last-pattern-requires c κs = tt
-
 add-end : tie.Need-add-end Inv-loop μ-loop
 add-end c = omega (arith, room (c .before .before .before .before .before .before .before .before .before .before) (c .last-pattern .ensures))
-
-pattern-by-requires : tie.Need-pattern-by-requires Inv-loop μ-loop
-pattern-by-requires c κs = tt
 
 best-sides-requires : tie.Need-best-sides-requires Inv-loop μ-loop
 best-sides-requires c κs =
@@ -89,9 +83,6 @@ loop-holds c =
       sides-one (given s) (sides-at (given s) 0 (pattern-by (given s) 0 (a .pattern-by .ensures) (a .before .before .contour-or-none .ensures)) (c .best-sides .ensures)),
     )
 
-pattern-by-requires-2 : tie.Need-pattern-by-requires-2 Inv-loop μ-loop
-pattern-by-requires-2 c κs = tt
-
 best-sides-requires-2 : tie.Need-best-sides-requires-2 Inv-loop μ-loop
 best-sides-requires-2 c κs =
     let b = c .before .before .before in
@@ -102,9 +93,6 @@ best-sides-requires-2 c κs =
 
 add-p : tie.Need-add-p Inv-loop μ-loop
 add-p c = omega arith
-
-loop-less : tie.Need-loop-less Inv-loop μ-loop
-loop-less c = search needs
 
 loop-again : tie.Need-loop-again Inv-loop μ-loop
 loop-again c =
@@ -140,14 +128,14 @@ best-pattern-spec =
     bit-planes-requires
     case-indices-requires
     contour-or-none-requires
-    last-pattern-requires
+    (λ c κs. tt)
     add-end
-    pattern-by-requires
+    (λ c κs. tt)
     best-sides-requires
     loop-holds
-    pattern-by-requires-2
+    (λ c κs. tt)
     best-sides-requires-2
     add-p
-    loop-less
+    (λ c. search needs)
     loop-again
     returns)

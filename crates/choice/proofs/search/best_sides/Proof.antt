@@ -1,7 +1,7 @@
--- `best_sides` meets its contract: what it costs is the sum of its partitions. Assumes nothing.
+-- `best_sides` meets its contract: what it costs is the sum of its partitions.
 use native.Mathlib.Omega.{arith}
 use borrow.Author.Needs.{needs}
-use Rattle.sides.proofs.CallLaws.{sides-bounds}
+use Rattle.prediction.proofs.SideCallLaws.{sides-bounds}
 use Rattle.choice.proofs.CaseLaws.{other-case}
 use Rattle.choice.proofs.SearchLaws.{both-sides}
 use Rattle.choice.proofs.search.best_sides.Statement.{statement}
@@ -16,20 +16,14 @@ side-case-requires c κs =
 best-offset-requires : tie.Need-best-offset-requires
 best-offset-requires c κs = let s : tie.Start = search needs in (s .pre .0, s .pre .1, c .side-case .ensures .0, c .side-case .ensures .1)
 
-add-best-offset : tie.Need-add-best-offset
-add-best-offset c = search needs
-
 best-offset-requires-2 : tie.Need-best-offset-requires-2
 best-offset-requires-2 c κs =
     let s : tie.Start = search needs in
     let k : tie.After-side-case = search needs in
     (s .pre .0, s .pre .1, other-case _ _ (k .side-case .ensures .0), omega arith)
 
-add-cost : tie.Need-add-cost
-add-cost c = search needs
-
 returns : tie.Need-returns
 returns c = both-sides _ _ (c .before .before .before .best-offset .ensures .0) (c .before .before .best-offset2 .ensures .0)
 
 pub best-sides-spec : {M : Type 1} → statement M
-best-sides-spec = tie.close (tie.spec side-case-requires best-offset-requires add-best-offset best-offset-requires-2 add-cost returns)
+best-sides-spec = tie.close (tie.spec side-case-requires best-offset-requires (λ c. search needs) best-offset-requires-2 (λ c. search needs) returns)

@@ -1,4 +1,4 @@
--- `case_indices` meets its contract: the first k indices are there. Assumes nothing.
+-- `case_indices` meets its contract: the first k indices are there.
 use native.Mathlib.Omega.{arith}
 use borrow.Author.Needs.{needs}
 use Prim.Native.Nat.{_-_, _≤_}
@@ -17,26 +17,8 @@ Inv-loop n border table indices₀ k₀ indices k = (k ≤ 8) × (length indices
 abbrev μ-loop : tie.MeasureT-loop
 μ-loop n border table indices₀ k₀ indices k = 8 - k
 
-loop-holds : tie.Need-loop-holds Inv-loop μ-loop
-loop-holds c = search needs
-
-case-depth-requires : tie.Need-case-depth-requires Inv-loop μ-loop
-case-depth-requires c κs = search needs
-
-nearest-index-requires : tie.Need-nearest-index-requires Inv-loop μ-loop
-nearest-index-requires c κs = tt
-
-mul-indices : tie.Need-mul-indices Inv-loop μ-loop
-mul-indices c = search needs
-
-array-write-indices : tie.Need-array-write-indices Inv-loop μ-loop
-array-write-indices c = search needs
-
-add-k : tie.Need-add-k Inv-loop μ-loop
-add-k c = search needs
-
-loop-less : tie.Need-loop-less Inv-loop μ-loop
-loop-less c = search needs
+index-in-requires : tie.Need-index-in-requires Inv-loop μ-loop
+index-in-requires c κs = c .before .before .before .before .before .pre .2
 
 loop-again : tie.Need-loop-again Inv-loop μ-loop
 loop-again c =
@@ -45,8 +27,8 @@ loop-again c =
     let l = c .before .before .before .loop in (
       omega arith,
       simp length-set (l .inv .1),
-      stored (λ k. indexOf (a .table .now) (depthIn (a .n) (a .border .now) k)) 0 (l .indices) (l .k) (c .nearest-index .result .0) (omega arith)
-          (c .nearest-index .ensures ∙ ap (indexOf (a .table .now)) (c .before .case-depth .ensures)) (l .inv .2),
+      stored (λ k. indexOf (a .table .now) (depthIn (a .n) (a .border .now) k)) 0 (l .indices) (l .k) (c .index-in .result) (omega arith)
+          (c .index-in .ensures ∙ ap (indexOf (a .table .now)) (c .before .case-depth .ensures)) (l .inv .2),
     )
 
 returns : tie.Need-returns Inv-loop μ-loop
@@ -60,12 +42,12 @@ case-indices-spec =
     (tie.spec
     Inv-loop
     μ-loop
-    loop-holds
-    case-depth-requires
-    nearest-index-requires
-    mul-indices
-    array-write-indices
-    add-k
-    loop-less
+    (λ c. search needs)
+    (λ c κs. search needs)
+    index-in-requires
+    (λ c. search needs)
+    (λ c. search needs)
+    (λ c. search needs)
+    (λ c. search needs)
     loop-again
     returns)

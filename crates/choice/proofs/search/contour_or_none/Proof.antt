@@ -1,22 +1,10 @@
--- `contour_or_none` meets its contract: only an empty texture is refused, and its contour has no marks. Assumes nothing.
+-- `contour_or_none` meets its contract: only an empty texture is refused, and its contour has no marks.
 use mathlib.Core.Path.{ap, _∙_}
 use Rattle.pattern.specs.Told.{contourTold}
 use Rattle.choice.proofs.SearchLaws.{contour-word, contour-refused}
 use borrow.Author.Needs.{needs}
 use Rattle.choice.proofs.search.contour_or_none.Statement.{statement}
 use Rattle.choice.proofs.search.contour_or_none.Tie as tie
-
-contour-requires : tie.Need-contour-requires
-contour-requires c κs = search needs
-
-enum-known-p : tie.Need-enum-known-p
-enum-known-p c = search needs
-
-enum-told : tie.Need-enum-told
-enum-told c = search needs
-
-one-word-requires : tie.Need-one-word-requires
-one-word-requires c κs = tt
 
 returns : tie.Need-returns
 returns c =
@@ -33,4 +21,4 @@ returns-2 c =
 pub contour-or-none-spec : {M : Type 1} → statement M
 contour-or-none-spec =
     tie.close
-    (tie.spec contour-requires enum-known-p enum-told one-word-requires returns returns-2)
+    (tie.spec (λ c κs. search needs) (λ c. search needs) (λ c. search needs) (λ c κs. tt) returns returns-2)

@@ -1,4 +1,4 @@
--- `above` meets its contract: after i samples the word holds the first i marks. Assumes nothing.
+-- `above` meets its contract: after i samples the word holds the first i marks.
 use borrow.Author.Needs.{needs}
 use Prim.Native.Nat.{_+_, _-_, _≤_, _<_}
 use mathlib.Core.Logic.{⊎-elim}
@@ -31,9 +31,6 @@ add-wide c = omega (arith, inside c)
 
 shared-slice-read-wide : tie.Need-shared-slice-read-wide Inv-loop μ-loop
 shared-slice-read-wide c = inside (c .before)
-
-wide-requires : tie.Need-wide-requires Inv-loop μ-loop
-wide-requires c κs = tt
 
 shl-w : tie.Need-shl-w Inv-loop μ-loop
 shl-w c = omega arith
@@ -72,7 +69,7 @@ above-spec =
     loop-holds
     add-wide
     shared-slice-read-wide
-    wide-requires
+    (λ c κs. tt)
     shl-w
     add-w
     add-i

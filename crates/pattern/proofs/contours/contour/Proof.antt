@@ -1,4 +1,4 @@
--- `contour` meets its contract: the refusal, or the samples above the mean, at most 64 to a word. Assumes nothing.
+-- `contour` meets its contract: the refusal, or the samples above the mean, at most 64 to a word.
 use mathlib.Core.Path.{_≡_, sym, ap, _∙_}
 use native.Mathlib.Omega.{arith}
 use lib.ListN.{length}
@@ -11,9 +11,6 @@ use Rattle.pattern.proofs.AnswerLaws.{SamplesFit, samples-fit}
 use Rattle.pattern.proofs.ContourLaws.{contour-words}
 use Rattle.pattern.proofs.contours.contour.Statement.{statement}
 use Rattle.pattern.proofs.contours.contour.Tie as tie
-
-samples-refusal-requires : tie.Need-samples-refusal-requires
-samples-refusal-requires c κs = tt
 
 returns : tie.Need-returns
 unfolding contourAnswer
@@ -36,34 +33,16 @@ mean-requires c κs = let f = fits c in (omega arith, f .high, f .square)
 mul-c0 : tie.Need-mul-c0
 mul-c0 c = omega (arith, square-256 (fits (c .before) .high))
 
-past-word-requires : tie.Need-past-word-requires
-past-word-requires c κs = tt
-
-past-word-requires-2 : tie.Need-past-word-requires-2
-past-word-requires-2 c κs = tt
-
-past-word-requires-3 : tie.Need-past-word-requires-3
-past-word-requires-3 c κs = tt
-
-lesser-requires : tie.Need-lesser-requires
-lesser-requires c κs = tt
-
 above-requires : tie.Need-above-requires
 above-requires c κs =
     let f = fits (c .before .before .before .before .before) in
     (omega (arith, c .lesser .ensures), λ i l. omega (arith, l, f .square, c .lesser .ensures))
-
-lesser-requires-2 : tie.Need-lesser-requires-2
-lesser-requires-2 c κs = tt
 
 above-requires-2 : tie.Need-above-requires-2
 above-requires-2 c κs =
     let w = c .before .before .before in
     let f = fits (w .before .before .before .before) in
     (omega (arith, c .lesser2 .ensures), λ i l. omega (arith, l, f .square, c .lesser2 .ensures, w .before .before .past-word .ensures))
-
-lesser-requires-3 : tie.Need-lesser-requires-3
-lesser-requires-3 c κs = tt
 
 above-requires-3 : tie.Need-above-requires-3
 above-requires-3 c κs =
@@ -72,9 +51,6 @@ above-requires-3 c κs =
       omega (arith, c .lesser3 .ensures),
       λ i l. omega (arith, l, f .square, c .lesser3 .ensures, w .before .before .past-word .ensures, w .before .past-word2 .ensures),
     )
-
-lesser-requires-4 : tie.Need-lesser-requires-4
-lesser-requires-4 c κs = tt
 
 above-requires-4 : tie.Need-above-requires-4
 above-requires-4 c κs =
@@ -115,19 +91,19 @@ pub contour-spec : {M : Type 1} → statement M
 contour-spec =
     tie.close
     (tie.spec
-    samples-refusal-requires
+    (λ c κs. tt)
     returns
     mean-requires
     mul-c0
-    past-word-requires
-    past-word-requires-2
-    past-word-requires-3
-    lesser-requires
+    (λ c κs. tt)
+    (λ c κs. tt)
+    (λ c κs. tt)
+    (λ c κs. tt)
     above-requires
-    lesser-requires-2
+    (λ c κs. tt)
     above-requires-2
-    lesser-requires-3
+    (λ c κs. tt)
     above-requires-3
-    lesser-requires-4
+    (λ c κs. tt)
     above-requires-4
     returns-2)

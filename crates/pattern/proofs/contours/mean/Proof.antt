@@ -1,4 +1,4 @@
--- `mean` meets its contract: after i samples the sum is that of the first i. Assumes nothing.
+-- `mean` meets its contract: after i samples the sum is that of the first i.
 use borrow.Author.Needs.{needs}
 use Prim.Native.Nat.{ℕ, _+_, _-_, _*_, _/_, _≤_}
 use mathlib.Core.Path.{_≡_, refl, ap, _∙_}
@@ -26,9 +26,6 @@ loop-holds c = search needs
 
 shared-slice-read-wide : tie.Need-shared-slice-read-wide Inv-loop μ-loop
 shared-slice-read-wide c = omega arith
-
-wide-requires : tie.Need-wide-requires Inv-loop μ-loop
-wide-requires c κs = tt
 
 add-sum : tie.Need-add-sum Inv-loop μ-loop
 add-sum c = omega (arith, square-256 (c .before .before .before .before .before .pre .1))
@@ -70,7 +67,7 @@ mean-spec =
     mul-i-end
     loop-holds
     shared-slice-read-wide
-    wide-requires
+    (λ c κs. tt)
     add-sum
     add-i
     loop-less

@@ -1,4 +1,4 @@
--- `samples_refusal` meets its contract, check by check. Assumes nothing.
+-- `samples_refusal` meets its contract, check by check.
 use mathlib.Core.Bool.{true, false}
 use mathlib.Core.Path.{_≡_, sym, _∙_}
 use native.Mathlib.Omega.{arith}
@@ -8,9 +8,6 @@ use Rattle.pattern.specs.Answer.{samplesRefusal}
 use Rattle.pattern.proofs.SizeLaws.{size-bounds, square-256}
 use Rattle.pattern.proofs.contours.samples_refusal.Statement.{statement}
 use Rattle.pattern.proofs.contours.samples_refusal.Tie as tie
-
-size-ok-requires : tie.Need-size-ok-requires
-size-ok-requires c κs = tt
 
 returns : tie.Need-returns
 unfolding samplesRefusal
@@ -35,4 +32,4 @@ unfolding samplesRefusal
 returns-3 c = rw (good (c .before), eq-eqb _ _ (c .if2 .left))
 
 pub samples-refusal-spec : {M : Type 1} → statement M
-samples-refusal-spec = tie.close (tie.spec size-ok-requires returns mul-if2 returns-2 returns-3)
+samples-refusal-spec = tie.close (tie.spec (λ c κs. tt) returns mul-if2 returns-2 returns-3)

@@ -1,4 +1,4 @@
--- `size_ok` meets its contract, case by case. Assumes nothing.
+-- `size_ok` meets its contract, case by case.
 use Prim.Native.Nat.{ℕ}
 use mathlib.Core.Bool.{false}
 use mathlib.Core.Path.{_≡_, sym, ap}

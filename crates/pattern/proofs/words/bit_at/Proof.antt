@@ -1,4 +1,4 @@
--- `bit_at` meets its contract: a 64-bit word has no bit from 64 up. Assumes nothing.
+-- `bit_at` meets its contract: a 64-bit word has no bit from 64 up.
 use mathlib.Core.Path.{sym}
 use Rattle.arith.proofs.BitLaws.{bit-past}
 use borrow.Author.Needs.{needs}
@@ -8,11 +8,5 @@ use Rattle.pattern.proofs.words.bit_at.Tie as tie
 returns : tie.Need-returns
 returns c = sym (bit-past 64 (c .before .args .word) (c .before .args .k) (search needs) (c .if1 .taken))
 
-shr-result : tie.Need-shr-result
-shr-result c = search needs
-
-returns-2 : tie.Need-returns-2
-returns-2 c = search needs
-
 pub bit-at-spec : {M : Type 1} → statement M
-bit-at-spec = tie.close (tie.spec returns shr-result returns-2)
+bit-at-spec = tie.close (tie.spec returns (λ c. search needs) (λ c. search needs))

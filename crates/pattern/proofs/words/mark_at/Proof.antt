@@ -1,4 +1,4 @@
--- `mark_at` meets its contract: each bit of a pattern stands in one of its words. Assumes nothing.
+-- `mark_at` meets its contract: each bit of a pattern stands in one of its words.
 use mathlib.Core.Path.{sym, _∙_}
 use native.Mathlib.Omega.{arith}
 use borrow.Author.Needs.{needs}
@@ -6,26 +6,14 @@ use Rattle.pattern.proofs.WordLaws.{bit-in-0, bit-in-1, bit-in-2, bit-i
 use Rattle.pattern.proofs.words.mark_at.Statement.{statement}
 use Rattle.pattern.proofs.words.mark_at.Tie as tie
 
-bit-at-requires : tie.Need-bit-at-requires
-bit-at-requires c κs = search needs
-
 returns : tie.Need-returns
 returns c = c .bit-at .ensures ∙ sym (bit-in-0 _ _ _ _ _ (omega arith))
-
-bit-at-requires-2 : tie.Need-bit-at-requires-2
-bit-at-requires-2 c κs = search needs
 
 returns-2 : tie.Need-returns-2
 returns-2 c = c .bit-at2 .ensures ∙ sym (bit-in-1 _ _ _ _ _ (search needs) (omega arith) (omega arith))
 
-bit-at-requires-3 : tie.Need-bit-at-requires-3
-bit-at-requires-3 c κs = search needs
-
 returns-3 : tie.Need-returns-3
 returns-3 c = c .bit-at3 .ensures ∙ sym (bit-in-2 _ _ _ _ _ (search needs) (search needs) (omega arith) (omega arith))
-
-bit-at-requires-4 : tie.Need-bit-at-requires-4
-bit-at-requires-4 c κs = search needs
 
 returns-4 : tie.Need-returns-4
 returns-4 c = c .bit-at4 .ensures ∙ sym (bit-in-3 _ _ _ _ _ (search needs) (search needs) (search needs) (omega arith))
@@ -34,11 +22,11 @@ pub mark-at-spec : {M : Type 1} → statement M
 mark-at-spec =
     tie.close
     (tie.spec
-    bit-at-requires
+    (λ c κs. search needs)
     returns
-    bit-at-requires-2
+    (λ c κs. search needs)
     returns-2
-    bit-at-requires-3
+    (λ c κs. search needs)
     returns-3
-    bit-at-requires-4
+    (λ c κs. search needs)
     returns-4)

@@ -1,4 +1,4 @@
--- `one_word` meets its contract. Assumes nothing.
+-- `one_word` meets its contract.
 use Rattle.pattern.proofs.WordLaws.{one-word-number}
 use Rattle.pattern.proofs.words.one_word.Statement.{statement}
 use Rattle.pattern.proofs.words.one_word.Tie as tie

@@ -1,4 +1,4 @@
--- `ones_in` meets its contract: a word has 64 bits. Assumes nothing.
+-- `ones_in` meets its contract: a word has 64 bits.
 use mathlib.Core.Path.{refl}
 use borrow.Author.Needs.{needs}
 use lib.Count.{ones-le}

@@ -1,4 +1,4 @@
--- `pattern_at` meets its contract: the words of the entry, where they are lent. Assumes nothing.
+-- `pattern_at` meets its contract: the words of the entry, where they are lent.
 use Prim.Native.Nat.{_+_, _*_, _≤_, _<_}
 use mathlib.Core.Path.{sym, _∙_}
 use native.Mathlib.Omega.{arith}
@@ -7,12 +7,6 @@ use Rattle.pattern.specs.Words.{wholePatterns}
 use Rattle.pattern.proofs.WordLaws.{whole-narrow, whole-wide, at-narrow, at-wide, patterns-at, patterns-past}
 use Rattle.pattern.proofs.words.pattern_at.Statement.{statement}
 use Rattle.pattern.proofs.words.pattern_at.Tie as tie
-
-whole-patterns-requires : tie.Need-whole-patterns-requires
-whole-patterns-requires c κs = tt
-
-one-word-requires : tie.Need-one-word-requires
-one-word-requires c κs = tt
 
 returns : tie.Need-returns
 returns c =
@@ -39,9 +33,6 @@ mul-one-word c = omega (arith, narrow c)
 shared-slice-read-one-word : tie.Need-shared-slice-read-one-word
 shared-slice-read-one-word c = narrow (c .before)
 
-one-word-requires-2 : tie.Need-one-word-requires-2
-one-word-requires-2 c κs = tt
-
 returns-2 : tie.Need-returns-2
 returns-2 c =
     let d = c .before .before in
@@ -66,12 +57,12 @@ pub pattern-at-spec : {M : Type 1} → statement M
 pattern-at-spec =
     tie.close
     (tie.spec
-    whole-patterns-requires
-    one-word-requires
+    (λ c κs. tt)
+    (λ c κs. tt)
     returns
     mul-one-word
     shared-slice-read-one-word
-    one-word-requires-2
+    (λ c κs. tt)
     returns-2
     mul-four-at
     four-at-requires

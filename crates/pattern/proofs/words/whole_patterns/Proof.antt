@@ -1,4 +1,4 @@
--- `whole_patterns` meets its contract, case by case. Assumes nothing.
+-- `whole_patterns` meets its contract, case by case.
 use mathlib.Core.Path.{sym}
 use native.Mathlib.Nat.{div-one}
 use borrow.Author.Tests.{le-leb, lt-leb}

@@ -1,4 +1,4 @@
--- `word_ok` meets its contract: four words have no bit from k up where none of them has one there. Assumes nothing.
+-- `word_ok` meets its contract: four words have no bit from k up where none of them has one there.
 use Prim.Native.Nat.{_*_, _≤_}
 use mathlib.Core.Path.{sym}
 use native.Mathlib.Nat.{lt-of-lt-of-le}
@@ -19,36 +19,6 @@ returns c =
 mul-k0 : tie.Need-mul-k0
 mul-k0 c = let h : c .before .args .n ≤ 15 = omega arith in omega (arith, square-le h)
 
-past-word-requires : tie.Need-past-word-requires
-past-word-requires c κs = search needs
-
-past-word-requires-2 : tie.Need-past-word-requires-2
-past-word-requires-2 c κs = search needs
-
-past-word-requires-3 : tie.Need-past-word-requires-3
-past-word-requires-3 c κs = search needs
-
-word-below-requires : tie.Need-word-below-requires
-word-below-requires c κs = search needs
-
-word-below-requires-2 : tie.Need-word-below-requires-2
-word-below-requires-2 c κs = search needs
-
-both-requires : tie.Need-both-requires
-both-requires c κs = search needs
-
-word-below-requires-3 : tie.Need-word-below-requires-3
-word-below-requires-3 c κs = search needs
-
-both-requires-2 : tie.Need-both-requires-2
-both-requires-2 c κs = search needs
-
-word-below-requires-4 : tie.Need-word-below-requires-4
-word-below-requires-4 c κs = search needs
-
-both-requires-3 : tie.Need-both-requires-3
-both-requires-3 c κs = search needs
-
 returns-2 : tie.Need-returns-2
 returns-2 c =
     let a = c .before .before .before .before .before .before .before .before .before .before .before .args in
@@ -61,14 +31,14 @@ word-ok-spec =
     (tie.spec
     returns
     mul-k0
-    past-word-requires
-    past-word-requires-2
-    past-word-requires-3
-    word-below-requires
-    word-below-requires-2
-    both-requires
-    word-below-requires-3
-    both-requires-2
-    word-below-requires-4
-    both-requires-3
+    (λ c κs. search needs)
+    (λ c κs. search needs)
+    (λ c κs. search needs)
+    (λ c κs. search needs)
+    (λ c κs. search needs)
+    (λ c κs. search needs)
+    (λ c κs. search needs)
+    (λ c κs. search needs)
+    (λ c κs. search needs)
+    (λ c κs. search needs)
     returns-2)

@@ -1,4 +1,4 @@
--- `words_of` meets its contract, case by case. Assumes nothing.
+-- `words_of` meets its contract, case by case.
 use borrow.Author.Tests.{le-leb, lt-leb}
 use Rattle.pattern.proofs.words.words_of.Statement.{statement}
 use Rattle.pattern.proofs.words.words_of.Tie as tie

@@ -7,9 +7,6 @@ use Rattle.prediction.specs.Answer.{lengthsOk}
 use Rattle.prediction.proofs.block.lengths_ok.Statement.{statement}
 use Rattle.prediction.proofs.block.lengths_ok.Tie as tie
 
-mul-if1 : tie.Need-mul-if1
-mul-if1 c = search needs
-
 returns : tie.Need-returns
 unfolding lengthsOk
 returns c = rw (ne-eqb _ _ (c .if1 .taken))
@@ -22,4 +19,4 @@ unfolding lengthsOk
 returns-2 c = rw (eq-eqb _ _ (c .if1 .left))
 
 pub lengths-ok-spec : {M : Type 1} → statement M
-lengths-ok-spec = tie.close (tie.spec mul-if1 returns mul-result returns-2)
+lengths-ok-spec = tie.close (tie.spec (λ c. search needs) returns mul-result returns-2)

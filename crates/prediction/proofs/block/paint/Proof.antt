@@ -22,17 +22,8 @@ abbrev μ-loop : tie.MeasureT-loop
 loop-holds : tie.Need-loop-holds Inv-loop μ-loop
 loop-holds c = (omega arith, refl, below-none _)
 
-mark-at-requires : tie.Need-mark-at-requires Inv-loop μ-loop
-mark-at-requires c κs = tt
-
-pick-requires : tie.Need-pick-requires Inv-loop μ-loop
-pick-requires c κs = tt
-
 slice-write-block : tie.Need-slice-write-block Inv-loop μ-loop
 slice-write-block c = c .before .before .loop-test .taken
-
-add-k : tie.Need-add-k Inv-loop μ-loop
-add-k c = search needs
 
 loop-less : tie.Need-loop-less Inv-loop μ-loop
 loop-less c = simp length-set (omega arith)
@@ -63,10 +54,10 @@ paint-spec =
     Inv-loop
     μ-loop
     loop-holds
-    mark-at-requires
-    pick-requires
+    (λ c κs. tt)
+    (λ c κs. tt)
     slice-write-block
-    add-k
+    (λ c. search needs)
     loop-less
     loop-again
     same-length

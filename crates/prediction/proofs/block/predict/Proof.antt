@@ -5,23 +5,17 @@ use mathlib.Core.Bool.{not}
 use denote.Ref.{now}
 use lib.ListN.{length}
 use mir.Syntax.{w32}
+use mir.Val.{toZ, ofZ}
 use mir.ValLaws.{toZ-ofZ}
 use Rattle.arith.specs.Checks.{given}
 use Rattle.arith.proofs.CheckLaws.{answer-given, lent-given}
-use Rattle.sides.specs.Answer.{sidesRefusal}
-use Rattle.prediction.specs.Answer.{predictRefusal, predictAnswer, predictBlock}
+use Rattle.prediction.specs.Answer.{predictRefusal, predictAnswer, predictBlock, Predictable}
 use Rattle.pattern.specs.Words.{patternNumber}
 use Rattle.prediction.proofs.BlockLaws.{painted-is, marked-is, unmarked-is, offsets-kept}
-use Rattle.prediction.proofs.CallLaws.{predicts-as, offsets-read, refusal-leaves, predict-accepted, sides-accept}
+use Rattle.prediction.proofs.CallLaws.{predicts-as, offsets-read, refusal-leaves, predict-accepted, predictable}
 use borrow.Author.Needs.{needs}
 use Rattle.prediction.proofs.block.predict.Statement.{statement}
 use Rattle.prediction.proofs.block.predict.Tie as tie
-
-used-words-requires : tie.Need-used-words-requires
-used-words-requires c κs = tt
-
-predict-refusal-requires : tie.Need-predict-refusal-requires
-predict-refusal-requires c κs = tt
 
 returns : tie.Need-returns
 returns c =
@@ -50,32 +44,23 @@ number-found c =
 none : (c : tie.Else1) → number (c .before .before) ≡ 0
 none c = sym (number-found (c .before)) ∙ c .if1 .left
 
-sound : (c : tie.Else1) → let u = c .before .before in let a = start u .args in sidesRefusal (a .n) (patternNumber (u .used-words .result)) (now (a .border)) ≡ 0
-sound c = sides-accept _ (predict-accepted _ _ _ _ _ _ _ (none c))
-
-mark-at-requires : tie.Need-mark-at-requires
-mark-at-requires c κs = tt
+-- then the values can be worked out
+able : (c : tie.Else1) → let a = start (c .before .before) .args in Predictable (a .n) (now (a .border)) (now (a .table)) (toZ w32 (ofZ w32 (a .off0))) (toZ w32 (ofZ w32 (a .off1)))
+able c = predictable _ (predict-accepted _ _ _ _ _ _ _ (sym (c .before .predict-refusal .ensures) ∙ c .if1 .left))
 
 value-of-requires : tie.Need-value-of-requires
-value-of-requires c κs = sound (c .before)
+value-of-requires c κs =
+    let p = able (c .before) in
+    let f = p .first in
+    let s = p .second in
+    record { some = p .some; high = p .high; long = p .long; sound = p .sound; first = search needs; second = search needs }
 
 value-of-requires-2 : tie.Need-value-of-requires-2
-value-of-requires-2 c κs = sound (c .before .before)
-
-pick-requires : tie.Need-pick-requires
-pick-requires c κs = tt
-
-pick-requires-2 : tie.Need-pick-requires-2
-pick-requires-2 c κs = tt
-
-paint-requires : tie.Need-paint-requires
-paint-requires c κs = tt
-
-marks-requires : tie.Need-marks-requires
-marks-requires c κs = tt
-
-same-length : tie.Need-same-length
-same-length c = search needs
+value-of-requires-2 c κs =
+    let p = able (c .before .before) in
+    let f = p .first in
+    let s = p .second in
+    record { some = p .some; high = p .high; long = p .long; sound = p .sound; first = search needs; second = search needs }
 
 returns-2 : tie.Need-returns-2
 unfolding predictAnswer predictBlock
@@ -108,15 +93,15 @@ pub predict-spec : {M : Type 1} → statement M
 predict-spec =
     tie.close
     (tie.spec
-    used-words-requires
-    predict-refusal-requires
+    (λ c κs. tt)
+    (λ c κs. tt)
     returns
-    mark-at-requires
+    (λ c κs. tt)
     value-of-requires
     value-of-requires-2
-    pick-requires
-    pick-requires-2
-    paint-requires
-    marks-requires
-    same-length
+    (λ c κs. tt)
+    (λ c κs. tt)
+    (λ c κs. tt)
+    (λ c κs. tt)
+    (λ c. search needs)
     returns-2)

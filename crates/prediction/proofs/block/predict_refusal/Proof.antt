@@ -6,13 +6,10 @@ use borrow.Author.Tests.{not-true, not-false}
 use Rattle.pattern.specs.Words.{patternNumber}
 use Rattle.pattern.proofs.SizeLaws.{size-bounds}
 use Rattle.arith.proofs.CheckLaws.{failed, checked}
-use Rattle.offset.specs.Offset.{offsetOk}
+use Rattle.depth_table.specs.Offset.{offsetOk}
 use Rattle.prediction.specs.Answer.{predictRefusal}
 use Rattle.prediction.proofs.block.predict_refusal.Statement.{statement}
 use Rattle.prediction.proofs.block.predict_refusal.Tie as tie
-
-size-ok-requires : tie.Need-size-ok-requires
-size-ok-requires c κs = tt
 
 returns : tie.Need-returns
 unfolding predictRefusal
@@ -25,33 +22,6 @@ returns c =
 lengths-ok-requires : tie.Need-lengths-ok-requires
 lengths-ok-requires c κs =
     size-bounds (c .before .before .before .args .n) (sym (c .before .size-ok .ensures) ∙ not-false _ (c .if1 .left)) .1
-
-is-table-requires : tie.Need-is-table-requires
-is-table-requires c κs = tt
-
-word-ok-requires : tie.Need-word-ok-requires
-word-ok-requires c κs = tt
-
-offset-ok-requires : tie.Need-offset-ok-requires
-offset-ok-requires c κs = tt
-
-offset-ok-requires-2 : tie.Need-offset-ok-requires-2
-offset-ok-requires-2 c κs = tt
-
-check-requires : tie.Need-check-requires
-check-requires c κs = tt
-
-check-requires-2 : tie.Need-check-requires-2
-check-requires-2 c κs = tt
-
-check-requires-3 : tie.Need-check-requires-3
-check-requires-3 c κs = tt
-
-check-requires-4 : tie.Need-check-requires-4
-check-requires-4 c κs = tt
-
-check-requires-5 : tie.Need-check-requires-5
-check-requires-5 c κs = tt
 
 returns-2 : tie.Need-returns-2
 unfolding predictRefusal
@@ -72,16 +42,16 @@ pub predict-refusal-spec : {M : Type 1} → statement M
 predict-refusal-spec =
     tie.close
     (tie.spec
-    size-ok-requires
+    (λ c κs. tt)
     returns
     lengths-ok-requires
-    is-table-requires
-    word-ok-requires
-    offset-ok-requires
-    offset-ok-requires-2
-    check-requires
-    check-requires-2
-    check-requires-3
-    check-requires-4
-    check-requires-5
+    (λ c κs. tt)
+    (λ c κs. tt)
+    (λ c κs. tt)
+    (λ c κs. tt)
+    (λ c κs. tt)
+    (λ c κs. tt)
+    (λ c κs. tt)
+    (λ c κs. tt)
+    (λ c κs. tt)
     returns-2)

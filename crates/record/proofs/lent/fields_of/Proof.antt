@@ -7,12 +7,6 @@ use borrow.Author.Needs.{needs}
 use Rattle.record.proofs.lent.fields_of.Statement.{statement}
 use Rattle.record.proofs.lent.fields_of.Tie as tie
 
-number-of-requires : tie.Need-number-of-requires
-number-of-requires c κs = search needs
-
-number-of-requires-2 : tie.Need-number-of-requires-2
-number-of-requires-2 c κs = search needs
-
 returns : tie.Need-returns
 returns c =
     let d = c .before .before .before .before in
@@ -27,4 +21,4 @@ returns c =
     (toZ-ofZ w32 _ f1)
 
 pub fields-of-spec : {M : Type 1} → statement M
-fields-of-spec = tie.close (tie.spec number-of-requires number-of-requires-2 returns)
+fields-of-spec = tie.close (tie.spec (λ c κs. search needs) (λ c κs. search needs) returns)

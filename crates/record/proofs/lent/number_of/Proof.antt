@@ -3,9 +3,6 @@ use borrow.Author.Needs.{needs}
 use Rattle.record.proofs.lent.number_of.Statement.{statement}
 use Rattle.record.proofs.lent.number_of.Tie as tie
 
-cast-result : tie.Need-cast-result
-cast-result c = search needs
-
 returns : tie.Need-returns
 returns c = number-low (c .before .args .k) (c .if1 .taken)
 
@@ -13,4 +10,4 @@ returns-2 : tie.Need-returns-2
 returns-2 c = number-high (c .before .args .k) (c .if1 .left)
 
 pub number-of-spec : {M : Type 1} → statement M
-number-of-spec = tie.close (tie.spec cast-result returns returns-2)
+number-of-spec = tie.close (tie.spec (λ c. search needs) returns returns-2)

@@ -10,24 +10,6 @@ use borrow.Author.Needs.{needs}
 use Rattle.record.proofs.lent.record_in.Statement.{statement}
 use Rattle.record.proofs.lent.record_in.Tie as tie
 
-array-copy-out-unsigned-of : tie.Need-array-copy-out-unsigned-of
-array-copy-out-unsigned-of c = search needs
-
-unsigned-of-requires : tie.Need-unsigned-of-requires
-unsigned-of-requires c κs = search needs
-
-array-copy-out-unsigned-of-2 : tie.Need-array-copy-out-unsigned-of-2
-array-copy-out-unsigned-of-2 c = search needs
-
-unsigned-of-requires-2 : tie.Need-unsigned-of-requires-2
-unsigned-of-requires-2 c κs = search needs
-
-array-copy-out-t13 : tie.Need-array-copy-out-t13
-array-copy-out-t13 c = search needs
-
-array-copy-out-t16 : tie.Need-array-copy-out-t16
-array-copy-out-t16 c = search needs
-
 returns : tie.Need-returns
 returns c =
     let f = c .before .before .before .before .before .before .args .t1 in
@@ -45,10 +27,10 @@ pub record-in-spec : {M : Type 1} → statement M
 record-in-spec =
     tie.close
     (tie.spec
-    array-copy-out-unsigned-of
-    unsigned-of-requires
-    array-copy-out-unsigned-of-2
-    unsigned-of-requires-2
-    array-copy-out-t13
-    array-copy-out-t16
+    (λ c. search needs)
+    (λ c κs. search needs)
+    (λ c. search needs)
+    (λ c κs. search needs)
+    (λ c. search needs)
+    (λ c. search needs)
     returns)

@@ -12,12 +12,6 @@ use Rattle.record.proofs.meaning.contour_meaning.Tie as tie
 told : (c : tie.After-check2) → let a = c .before .before .args in c .check2 .result ≡ refusal ((eqb (a .entry) 0, 7) ∷ (a .textured, 21) ∷ []) (a .rest)
 told c = checked 7 {a = eqb (c .before .before .args .entry) 0} (c .check2 .ensures) refl (c .before .check .ensures)
 
-check-requires : tie.Need-check-requires
-check-requires c κs = search needs
-
-check-requires-2 : tie.Need-check-requires-2
-check-requires-2 c κs = search needs
-
 returns : tie.Need-returns
 returns c = refused-by contour (told (c .before)) (c .if1 .taken)
 
@@ -25,4 +19,4 @@ returns-2 : tie.Need-returns-2
 returns-2 c = given-by (told (c .before)) (c .if1 .left) refl
 
 pub contour-meaning-spec : {M : Type 1} → statement M
-contour-meaning-spec = tie.close (tie.spec check-requires check-requires-2 returns returns-2)
+contour-meaning-spec = tie.close (tie.spec (λ c κs. search needs) (λ c κs. search needs) returns returns-2)

@@ -18,18 +18,6 @@ told c =
     let p = c .before .before .before in
     checked 6 {a = ltb (a .entry) (a .count)} (c .check2 .ensures) refl (checked 5 (c .before .check .ensures) (c .before .before .word-ok .ensures ∙ ap (wordOk (a .n)) (p .pattern-at .ensures)) refl)
 
-pattern-at-requires : tie.Need-pattern-at-requires
-pattern-at-requires c κs = search needs
-
-word-ok-requires : tie.Need-word-ok-requires
-word-ok-requires c κs = search needs
-
-check-requires : tie.Need-check-requires
-check-requires c κs = search needs
-
-check-requires-2 : tie.Need-check-requires-2
-check-requires-2 c κs = search needs
-
 returns : tie.Need-returns
 returns c = refused-by _ (told (c .before)) (c .if1 .taken)
 
@@ -40,9 +28,9 @@ pub listed-meaning-spec : {M : Type 1} → statement M
 listed-meaning-spec =
     tie.close
     (tie.spec
-    pattern-at-requires
-    word-ok-requires
-    check-requires
-    check-requires-2
+    (λ c κs. search needs)
+    (λ c κs. search needs)
+    (λ c κs. search needs)
+    (λ c κs. search needs)
     returns
     returns-2)

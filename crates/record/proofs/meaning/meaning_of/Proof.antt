@@ -3,15 +3,6 @@ use borrow.Author.Needs.{needs}
 use Rattle.record.proofs.meaning.meaning_of.Statement.{statement}
 use Rattle.record.proofs.meaning.meaning_of.Tie as tie
 
-offset-refusal-requires : tie.Need-offset-refusal-requires
-offset-refusal-requires c κs = search needs
-
-listed-meaning-requires : tie.Need-listed-meaning-requires
-listed-meaning-requires c κs = search needs
-
-contour-meaning-requires : tie.Need-contour-meaning-requires
-contour-meaning-requires c κs = search needs
-
 returns : tie.Need-returns
 returns c =
     let d = c .before .before .before .before in
@@ -31,9 +22,9 @@ pub meaning-of-spec : {M : Type 1} → statement M
 meaning-of-spec =
     tie.close
     (tie.spec
-    offset-refusal-requires
-    listed-meaning-requires
-    contour-meaning-requires
+    (λ c κs. search needs)
+    (λ c κs. search needs)
+    (λ c κs. search needs)
     returns
     returns-2
     returns-3)

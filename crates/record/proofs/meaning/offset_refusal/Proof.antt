@@ -3,22 +3,10 @@ use mir.Syntax.{w32}
 use mir.Val.{SFits}
 use mir.ValLaws.{toZ-ofZ}
 use Rattle.arith.proofs.CheckLaws.{checked}
-use Rattle.offset.specs.Offset.{offsetOk}
+use Rattle.depth_table.specs.Offset.{offsetOk}
 use borrow.Author.Needs.{needs}
 use Rattle.record.proofs.meaning.offset_refusal.Statement.{statement}
 use Rattle.record.proofs.meaning.offset_refusal.Tie as tie
-
-offset-ok-requires : tie.Need-offset-ok-requires
-offset-ok-requires c κs = search needs
-
-check-requires : tie.Need-check-requires
-check-requires c κs = search needs
-
-offset-ok-requires-2 : tie.Need-offset-ok-requires-2
-offset-ok-requires-2 c κs = search needs
-
-check-requires-2 : tie.Need-check-requires-2
-check-requires-2 c κs = search needs
 
 returns : tie.Need-returns
 returns c =
@@ -31,4 +19,4 @@ returns c =
 pub offset-refusal-spec : {M : Type 1} → statement M
 offset-refusal-spec =
     tie.close
-    (tie.spec offset-ok-requires check-requires offset-ok-requires-2 check-requires-2 returns)
+    (tie.spec (λ c κs. search needs) (λ c κs. search needs) (λ c κs. search needs) (λ c κs. search needs) returns)

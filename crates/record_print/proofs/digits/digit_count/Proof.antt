@@ -1,10 +1,10 @@
--- `digit_count` meets its contract: the powers of ten part the numbers by how many digits they have. Assumes nothing.
+-- `digit_count` meets its contract: the powers of ten part the numbers by how many digits they have.
 use Prim.Native.Nat.{suc}
 use mathlib.Core.Path.{sym, ap}
 use native.Mathlib.Omega.{arith}
 use borrow.Author.Tests.{le-ltb}
-use Rattle.record_field.specs.Numeral.{furtherDigits}
-use Rattle.record_field.proofs.NumeralLaws.{further-is, further-none}
+use Rattle.record_text.specs.Numeral.{furtherDigits}
+use Rattle.record_text.proofs.NumeralLaws.{further-is, further-none}
 use Rattle.record_print.proofs.digits.digit_count.Statement.{statement}
 use Rattle.record_print.proofs.digits.digit_count.Tie as tie
 

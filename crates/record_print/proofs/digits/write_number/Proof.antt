@@ -1,11 +1,11 @@
--- `write_number` meets its contract: the numeral, and then the byte after it. Assumes nothing.
+-- `write_number` meets its contract: the numeral, and then the byte after it.
 use Prim.Native.Nat.{_+_, _≤_}
 use mathlib.Core.List.{[], _∷_}
 use native.Mathlib.Omega.{arith}
 use borrow.Author.Needs.{needs}
 use lib.ListN.{length}
-use Rattle.record_field.specs.Numeral.{numeral}
-use Rattle.record_field.specs.Field.{numberText}
+use Rattle.record_text.specs.Numeral.{numeral}
+use Rattle.record_text.specs.Field.{numberText}
 use Rattle.record_print.proofs.WriteSteps.{written-byte, written-then, written-length, room-first, room-next}
 use Rattle.record_print.proofs.digits.write_number.Statement.{statement}
 use Rattle.record_print.proofs.digits.write_number.Tie as tie
@@ -31,13 +31,10 @@ add-result c =
     let w = c .before .before in
     omega (arith, room w, written-length (w .write-numeral .ensures), w .before .before .before .good)
 
-same-length : tie.Need-same-length
-same-length c = search needs
-
 returns : tie.Need-returns
 unfolding numberText
 returns c = written-then (c .before .before .write-numeral .ensures) (written-byte _ _ _)
 
 pub write-number-spec : {M : Type 1} → statement M
 write-number-spec =
-    tie.close (tie.spec write-numeral-requires slice-write-out add-result same-length returns)
+    tie.close (tie.spec write-numeral-requires slice-write-out add-result (λ c. search needs) returns)

@@ -1,13 +1,13 @@
 -- `write_numeral` meets its contract. The loop's invariant: the digits that are left, written to the bytes as they are, give what the
--- whole numeral gives. Assumes nothing.
-use Prim.Native.Nat.{ℕ, suc, _+_, _/_, _^_, _≤_, _<_, _-_}
+-- whole numeral gives.
+use Prim.Native.Nat.{ℕ, suc, _+_, _^_, _≤_, _<_, _-_}
 use mathlib.Core.Path.{_≡_, sym, _∙_, ap, refl}
 use native.Mathlib.Omega.{arith}
 use borrow.Author.Needs.{needs}
 use lib.ListN.{length, length-set}
 use lib.Seq.{sets}
-use Rattle.record_field.specs.Numeral.{numeral, digitsOf, furtherDigits}
-use Rattle.record_field.proofs.NumeralLaws.{further-le, further-high, ten-pow, length-digits, length-numeral}
+use Rattle.record_text.specs.Numeral.{numeral, digitsOf, furtherDigits}
+use Rattle.record_text.proofs.NumeralLaws.{further-le, further-high, length-digits, length-numeral}
 use Rattle.record_print.proofs.WriteSteps.{digit-written, digit-small, rest-small}
 use Rattle.record_print.proofs.digits.write_numeral.Statement.{statement}
 use Rattle.record_print.proofs.digits.write_numeral.Tie as tie
@@ -19,9 +19,6 @@ Inv-loop out₀ at x left₀ rest₀ p₀ out left rest p =
 abbrev μ-loop : tie.MeasureT-loop
 μ-loop out₀ at x left₀ rest₀ p₀ out left rest p = left
 
-digit-count-requires : tie.Need-digit-count-requires Inv-loop μ-loop
-digit-count-requires c κs = tt
-
 loop-holds : tie.Need-loop-holds Inv-loop μ-loop
 unfolding numeral
 loop-holds c =
@@ -29,19 +26,10 @@ loop-holds c =
     let a = c .before .before .args in
     (ap (λ (k : ℕ). sets (a .out .now) (a .at) (digitsOf k (a .x))) e, omega arith, rw e (further-high 4 (a .x) (c .before .before .pre .0)), omega (arith, further-le 4 (a .x)), refl)
 
-sub-left : tie.Need-sub-left Inv-loop μ-loop
-sub-left c = search needs
-
-power-of-ten-requires : tie.Need-power-of-ten-requires Inv-loop μ-loop
-power-of-ten-requires c κs = search needs
-
-div-out : tie.Need-div-out Inv-loop μ-loop
-div-out c = rw (c .power-of-ten .ensures) (ten-pow _)
-
-digit : (c : tie.After-power-of-ten Inv-loop μ-loop) → c .before .before .loop .rest / c .power-of-ten .result < 10
+digit : (c : tie.After-digit-before Inv-loop μ-loop) → c .digit-before .result < 10
 digit c =
     let l = c .before .before .loop in
-    digit-small (l .left) (l .rest) (c .power-of-ten .result) (c .before .loop-test .taken) (c .power-of-ten .ensures) (l .inv .2)
+    digit-small (l .left) (l .rest) _ (c .before .loop-test .taken) (c .digit-before .ensures) (l .inv .2)
 
 add-out : tie.Need-add-out Inv-loop μ-loop
 add-out c = omega (arith, digit c)
@@ -54,28 +42,16 @@ slice-write-out c =
     let a = c .before .before .before .before .before in
     omega (arith, length-numeral (a .args .x), a .pre)
 
-rem-rest : tie.Need-rem-rest Inv-loop μ-loop
-rem-rest c = rw (c .power-of-ten .ensures) (ten-pow _)
-
-add-p : tie.Need-add-p Inv-loop μ-loop
-add-p c = search needs
-
-loop-less : tie.Need-loop-less Inv-loop μ-loop
-loop-less c = search needs
-
 loop-again : tie.Need-loop-again Inv-loop μ-loop
 loop-again c =
-    let l = c .before .before .loop in
-    let u = c .power-of-ten in (
-      digit-written (l .out) (l .p) (l .left) (l .rest) (u .result) (c .before .loop-test .taken) (u .ensures) ∙ l .inv .0,
+    let d = c .before in
+    let l = d .before .before .loop in (
+      digit-written (l .out) (l .p) (l .left) (l .rest) _ _ (d .before .loop-test .taken) (d .digit-before .ensures) (c .last-digits .ensures) ∙ l .inv .0,
       omega arith,
-      rest-small (l .left - 1) (l .rest) (u .result) (u .ensures),
+      rest-small (l .left - 1) (l .rest) _ (c .last-digits .ensures),
       omega arith,
       length-set (l .out) (l .p) _ ∙ l .inv .4,
     )
-
-same-length : tie.Need-same-length Inv-loop μ-loop
-same-length c = search needs
 
 returns : tie.Need-returns Inv-loop μ-loop
 unfolding numeral digitsOf
@@ -93,17 +69,16 @@ write-numeral-spec =
     (tie.spec
     Inv-loop
     μ-loop
-    digit-count-requires
+    (λ c κs. tt)
     loop-holds
-    sub-left
-    power-of-ten-requires
-    div-out
+    (λ c. search needs)
+    (λ c κs. search needs)
     add-out
     cast-out
     slice-write-out
-    rem-rest
-    add-p
-    loop-less
+    (λ c κs. search needs)
+    (λ c. search needs)
+    (λ c. search needs)
     loop-again
-    same-length
+    (λ c. search needs)
     returns)

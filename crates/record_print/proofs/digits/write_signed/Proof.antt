@@ -1,4 +1,4 @@
--- `write_signed` meets its contract: below 0 a minus, and then the magnitude's numeral. Assumes nothing.
+-- `write_signed` meets its contract: below 0 a minus, and then the magnitude's numeral.
 use Prim.Native.Nat.{_+_}
 use mathlib.Core.Path.{_≡_, sym, _∙_, ap}
 use mathlib.Core.Bool.{true, false}
@@ -8,27 +8,28 @@ use borrow.Author.Needs.{needs}
 use lib.IntN.{ℤ, pos, natAbs}
 use lib.ListN.{length, length-set}
 use lib.Signed.{ltZ}
-use Rattle.record_field.specs.Field.{numberText, signedText}
-use Rattle.record_field.proofs.LengthLaws.{signed-some}
-use Rattle.record_field.proofs.SignLaws.{word-back}
+use Rattle.record_text.specs.Field.{numberText, signedText}
+use Rattle.record_text.proofs.LengthLaws.{signed-some}
+use mir.Syntax.{w64}
+use mir.ValLaws.{toZ-ofZ}
 use Rattle.record_print.proofs.WriteSteps.{written-byte, written-then, written-as, negative-text, positive-text}
 use Rattle.record_print.proofs.digits.write_signed.Statement.{statement}
 use Rattle.record_print.proofs.digits.write_signed.Tie as tie
 
 low : (c : tie.Then1) → ltZ (c .before .before .args .z) (pos 0) ≡ true
 low c =
-    ap (λ (y : ℤ). ltZ y (pos 0)) (sym (word-back (c .before .before .args .z) (c .before .before .fits .z))) ∙ c .if1 .taken
+    ap (λ (y : ℤ). ltZ y (pos 0)) (sym (toZ-ofZ w64 (c .before .before .args .z) (c .before .before .fits .z))) ∙ c .if1 .taken
 
 high : (c : tie.Else1) → ltZ (c .before .before .args .z) (pos 0) ≡ false
 high c =
-    ap (λ (y : ℤ). ltZ y (pos 0)) (sym (word-back (c .before .before .args .z) (c .before .before .fits .z))) ∙ c .if1 .left
+    ap (λ (y : ℤ). ltZ y (pos 0)) (sym (toZ-ofZ w64 (c .before .before .args .z) (c .before .before .fits .z))) ∙ c .if1 .left
 
 -- the texts, by the magnitude that was computed
 sized : (c : tie.After-magnitude) → c .magnitude .result ≡ natAbs (c .before .before .before .before .args .z)
-sized c = let s = c .before .before .before .before in c .magnitude .ensures ∙ ap natAbs (word-back (s .args .z) (s .fits .z))
+sized c = let s = c .before .before .before .before in c .magnitude .ensures ∙ ap natAbs (toZ-ofZ w64 (s .args .z) (s .fits .z))
 
 sized-2 : (c : tie.After-magnitude2) → c .magnitude2 .result ≡ natAbs (c .before .before .before .before .args .z)
-sized-2 c = let s = c .before .before .before .before in c .magnitude2 .ensures ∙ ap natAbs (word-back (s .args .z) (s .fits .z))
+sized-2 c = let s = c .before .before .before .before in c .magnitude2 .ensures ∙ ap natAbs (toZ-ofZ w64 (s .args .z) (s .fits .z))
 
 minus-text :
     (c : tie.After-magnitude)
@@ -45,12 +46,6 @@ slice-write-out c =
     let s = c .before .before in
     omega (arith, signed-some (s .args .end) (s .args .z), s .pre .1)
 
-add-write-number : tie.Need-add-write-number
-add-write-number c = search needs
-
-magnitude-requires : tie.Need-magnitude-requires
-magnitude-requires c κs = search needs
-
 write-number-requires : tie.Need-write-number-requires
 write-number-requires c κs =
     let s = c .before .before .before .before in
@@ -65,16 +60,10 @@ returns : tie.Need-returns
 returns c =
     written-as (written-then (written-byte _ _ _) (c .before .before .write-number .ensures)) (minus-text (c .before .before .before))
 
-magnitude-requires-2 : tie.Need-magnitude-requires-2
-magnitude-requires-2 c κs = search needs
-
 write-number-requires-2 : tie.Need-write-number-requires-2
 write-number-requires-2 c κs =
     let s = c .before .before .before .before in
     (rw (sized-2 c) (s .pre .0), rw (none-text c) (s .pre .1))
-
-same-length-2 : tie.Need-same-length-2
-same-length-2 c = search needs
 
 returns-2 : tie.Need-returns-2
 returns-2 c = written-as (c .before .before .write-number2 .ensures) (none-text (c .before .before .before))
@@ -84,12 +73,12 @@ write-signed-spec =
     tie.close
     (tie.spec
     slice-write-out
-    add-write-number
-    magnitude-requires
+    (λ c. search needs)
+    (λ c κs. search needs)
     write-number-requires
     same-length
     returns
-    magnitude-requires-2
+    (λ c κs. search needs)
     write-number-requires-2
-    same-length-2
+    (λ c. search needs)
     returns-2)

@@ -1,17 +1,8 @@
--- `put_size_title` meets its contract: its text is the title's. Assumes nothing.
+-- `put_size_title` meets its contract: its text is the title's.
 use borrow.Author.Needs.{needs}
 use Rattle.record_text.specs.Line.{sizeTitle}
 use Rattle.record_print.proofs.put.put_size_title.Statement.{statement}
 use Rattle.record_print.proofs.put.put_size_title.Tie as tie
-
-slice-aggregate-put-text : tie.Need-slice-aggregate-put-text
-slice-aggregate-put-text c = search needs
-
-put-text-requires : tie.Need-put-text-requires
-put-text-requires c κs = tt
-
-same-length : tie.Need-same-length
-same-length c = search needs
 
 returns : tie.Need-returns
 unfolding sizeTitle
@@ -19,4 +10,4 @@ returns c = c .before .before .put-text .ensures
 
 pub put-size-title-spec : {M : Type 1} → statement M
 put-size-title-spec =
-    tie.close (tie.spec slice-aggregate-put-text put-text-requires same-length returns)
+    tie.close (tie.spec (λ c. search needs) (λ c κs. tt) (λ c. search needs) returns)

@@ -1,5 +1,5 @@
 -- `put_text` meets its contract. The loop's invariant: what is left of the text, written to the bytes as they are, gives what the whole
--- gives. Assumes nothing.
+-- gives.
 use Prim.Native.Nat.{ℕ, _+_, _-_, _≤_, _<_}
 use mathlib.Core.Path.{_≡_, sym, _∙_, ap, refl}
 use native.Mathlib.Nat.{add-zero}
@@ -7,7 +7,7 @@ use native.Mathlib.Omega.{arith}
 use borrow.Author.Needs.{needs}
 use lib.ListN.{length, drop, length-set}
 use lib.Seq.{sets}
-use Rattle.record_field.proofs.ReadSteps.{past}
+use Rattle.record_text.proofs.ReadSteps.{past}
 use Rattle.record_print.proofs.PutLaws.{put-no-room, put-room, copy-step}
 use Rattle.record_print.proofs.put.put_text.Statement.{statement}
 use Rattle.record_print.proofs.put.put_text.Tie as tie
@@ -22,9 +22,6 @@ abbrev μ-loop : tie.MeasureT-loop
 returns : tie.Need-returns Inv-loop μ-loop
 returns c = put-no-room _ _ _ (let a = c .before .args in let h : length (a .out .now) < a .from .at + length (a .text .now) = omega arith in h)
 
-sub-if2 : tie.Need-sub-if2 Inv-loop μ-loop
-sub-if2 c = search needs
-
 returns-2 : tie.Need-returns-2 Inv-loop μ-loop
 returns-2 c = put-no-room _ _ _ (let a = c .before .before .args in let h : length (a .out .now) < a .from .at + length (a .text .now) = omega arith in h)
 
@@ -32,21 +29,6 @@ loop-holds : tie.Need-loop-holds Inv-loop μ-loop
 loop-holds c =
     let a = c .before .before .args in
     (ap (λ (k : ℕ). sets (a .out .now) k (a .text .now)) (add-zero (a .from .at)), refl, refl, omega arith, omega arith)
-
-shared-slice-read-out : tie.Need-shared-slice-read-out Inv-loop μ-loop
-shared-slice-read-out c = search needs
-
-add-out : tie.Need-add-out Inv-loop μ-loop
-add-out c = search needs
-
-slice-write-out : tie.Need-slice-write-out Inv-loop μ-loop
-slice-write-out c = search needs
-
-add-i : tie.Need-add-i Inv-loop μ-loop
-add-i c = search needs
-
-loop-less : tie.Need-loop-less Inv-loop μ-loop
-loop-less c = search needs
 
 loop-again : tie.Need-loop-again Inv-loop μ-loop
 loop-again c =
@@ -58,12 +40,6 @@ loop-again c =
       omega arith,
       l .inv .4,
     )
-
-add-t8 : tie.Need-add-t8 Inv-loop μ-loop
-add-t8 c = search needs
-
-same-length : tie.Need-same-length Inv-loop μ-loop
-same-length c = search needs
 
 returns-3 : tie.Need-returns-3 Inv-loop μ-loop
 returns-3 c =
@@ -79,15 +55,15 @@ put-text-spec =
     Inv-loop
     μ-loop
     returns
-    sub-if2
+    (λ c. search needs)
     returns-2
     loop-holds
-    shared-slice-read-out
-    add-out
-    slice-write-out
-    add-i
-    loop-less
+    (λ c. search needs)
+    (λ c. search needs)
+    (λ c. search needs)
+    (λ c. search needs)
+    (λ c. search needs)
     loop-again
-    add-t8
-    same-length
+    (λ c. search needs)
+    (λ c. search needs)
     returns-3)

@@ -1,66 +1,39 @@
--- `put_size_line` meets its contract: the line is made apart, and then put. Assumes nothing.
-use Prim.Native.Nat.{_≤_}
-use mathlib.Core.Bool.{true}
-use mathlib.Core.Path.{_≡_, sym, _∙_}
-use native.Mathlib.Omega.{arith}
+-- `put_size_line` meets its contract: it is a line of four numbers.
+use mathlib.Core.List.{[], _∷_}
 use borrow.Author.Needs.{needs}
-use borrow.Author.Tests.{not-true, not-false}
-use lib.ListN.{length}
-use Rattle.record_text.specs.Line.{sizeText}
-use Rattle.record_text.proofs.LengthLaws.{size-le}
+use mir.Syntax.{w64}
+use mir.Val.{SFits, toZ, ofZ}
+use mir.ValLaws.{toZ-ofZ}
+use Rattle.record_text.specs.Line.{sizeNumbers, sizeText}
 use Rattle.record_print.specs.Put.{sizePrintable}
-use Rattle.record_print.proofs.PutLaws.{put-unprintable, made-inside, made-length, put-made, size-printable}
+use Rattle.record_print.proofs.PutLaws.{line-as}
 use Rattle.record_print.proofs.put_line.put_size_line.Statement.{statement}
 use Rattle.record_print.proofs.put_line.put_size_line.Tie as tie
 
--- past the test
-printable : (c : tie.Else1) → sizePrintable (c .before .before .before .args .h) ≡ true
-printable c = sym (c .before .size-printable .ensures) ∙ not-false _ (c .if1 .left)
-
-size-printable-requires : tie.Need-size-printable-requires
-size-printable-requires c κs = tt
-
 returns : tie.Need-returns
-returns c = put-unprintable _ _ _ _ (sym (c .before .size-printable .ensures) ∙ not-true _ (c .if1 .taken))
-
-slice-aggregate-write-size : tie.Need-slice-aggregate-write-size
-slice-aggregate-write-size c = search needs
-
-write-size-requires : tie.Need-write-size-requires
-write-size-requires c κs =
-    let h = c .before .before .before .before .args .h in
-    (size-printable h (printable (c .before)), omega (arith, size-le h))
-
-short : (c : tie.After-write-size) → length (sizeText (c .before .before .before .before .before .args .h)) ≤ 64
-short c = omega (arith, size-le (c .before .before .before .before .before .args .h))
-
-array-share-prefix-line : tie.Need-array-share-prefix-line
-array-share-prefix-line c = let w = c .before .before in made-inside {k = 64} (w .write-size .ensures) (short w)
-
-slice-aggregate-put-text : tie.Need-slice-aggregate-put-text
-slice-aggregate-put-text c = let w = c .before .before .before in made-length {k = 64} (w .write-size .ensures) (short w)
-
-put-text-requires : tie.Need-put-text-requires
-put-text-requires c κs = tt
-
-same-length : tie.Need-same-length
-same-length c = search needs
-
-returns-2 : tie.Need-returns-2
-returns-2 c =
-    let w = c .before .before .before .before .before .before in
-    put-made {k = 64} (w .write-size .ensures) (short w) (printable (w .before .before)) (c .before .before .put-text .ensures)
+unfolding sizePrintable sizeText
+returns c =
+    let p = c .before .before in
+    let z4 = p .before .before in
+    let z3 = z4 .before in
+    let z2 = z3 .before in
+    let z1 = z2 .before in
+    let f1 : SFits w64 (z1 .number .result) = search needs in
+    let f2 : SFits w64 (z2 .number2 .result) = search needs in
+    let f3 : SFits w64 (z3 .number3 .result) = search needs in
+    let f4 : SFits w64 (z4 .number4 .result) = search needs in
+    line-as (toZ w64 (ofZ w64 (z1 .number .result)) ∷ toZ w64 (ofZ w64 (z2 .number2 .result)) ∷ toZ w64 (ofZ w64 (z3 .number3 .result)) ∷ toZ w64 (ofZ w64 (z4 .number4 .result)) ∷ []) (sizeNumbers (c .before .before .before .before .before .before .before .before .before .before .args .h)) (p .put-line .ensures)
+    (rw (toZ-ofZ w64 (z1 .number .result) f1, toZ-ofZ w64 (z2 .number2 .result) f2, toZ-ofZ w64 (z3 .number3 .result) f3, toZ-ofZ w64 (z4 .number4 .result) f4, z1 .number .ensures, z2 .number2 .ensures, z3 .number3 .ensures, z4 .number4 .ensures))
 
 pub put-size-line-spec : {M : Type 1} → statement M
 put-size-line-spec =
     tie.close
     (tie.spec
-    size-printable-requires
-    returns
-    slice-aggregate-write-size
-    write-size-requires
-    array-share-prefix-line
-    slice-aggregate-put-text
-    put-text-requires
-    same-length
-    returns-2)
+    (λ c κs. search needs)
+    (λ c κs. search needs)
+    (λ c κs. search needs)
+    (λ c κs. search needs)
+    (λ c. search needs)
+    (λ c κs. search needs)
+    (λ c. search needs)
+    returns)

@@ -6,12 +6,6 @@ use Rattle.pattern.specs.Words.{wholePatterns}
 use Rattle.record_read.proofs.reading.lists_ok.Statement.{statement}
 use Rattle.record_read.proofs.reading.lists_ok.Tie as tie
 
-whole-patterns-requires : tie.Need-whole-patterns-requires
-whole-patterns-requires c κs = tt
-
-count-ok-requires : tie.Need-count-ok-requires
-count-ok-requires c κs = tt
-
 -- the count of each list
 first : (c : tie.After-count-ok) → let a = c .before .before .args in c .count-ok .result ≡ countOk (wholePatterns 4 (a .words4)) (a .count4)
 first c = rw (c .before .whole-patterns .ensures) at (c .count-ok .ensures)
@@ -28,22 +22,10 @@ third c = rw (c .before .whole-patterns3 .ensures) at (c .count-ok3 .ensures)
 returns : tie.Need-returns
 returns c = rw (sym (first (c .before)) ∙ not-true _ (c .if1 .taken))
 
-whole-patterns-requires-2 : tie.Need-whole-patterns-requires-2
-whole-patterns-requires-2 c κs = tt
-
-count-ok-requires-2 : tie.Need-count-ok-requires-2
-count-ok-requires-2 c κs = tt
-
 returns-2 : tie.Need-returns-2
 returns-2 c =
     let e = c .before .before .before in
     rw (sym (first (e .before)) ∙ not-false _ (e .if1 .left), sym (second (c .before)) ∙ not-true _ (c .if2 .taken))
-
-whole-patterns-requires-3 : tie.Need-whole-patterns-requires-3
-whole-patterns-requires-3 c κs = tt
-
-count-ok-requires-3 : tie.Need-count-ok-requires-3
-count-ok-requires-3 c κs = tt
 
 returns-3 : tie.Need-returns-3
 returns-3 c =
@@ -55,12 +37,12 @@ pub lists-ok-spec : {M : Type 1} → statement M
 lists-ok-spec =
     tie.close
     (tie.spec
-    whole-patterns-requires
-    count-ok-requires
+    (λ c κs. tt)
+    (λ c κs. tt)
     returns
-    whole-patterns-requires-2
-    count-ok-requires-2
+    (λ c κs. tt)
+    (λ c κs. tt)
     returns-2
-    whole-patterns-requires-3
-    count-ok-requires-3
+    (λ c κs. tt)
+    (λ c κs. tt)
     returns-3)

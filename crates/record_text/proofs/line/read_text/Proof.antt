@@ -1,10 +1,10 @@
--- `read_text` meets its contract. The loop's invariant: the rest of the text, read from the place reached, gives what the whole gives. Assumes nothing.
+-- `read_text` meets its contract. The loop's invariant: the rest of the text, read from the place reached, gives what the whole gives.
 use Prim.Native.Nat.{_-_, _≤_}
 use mathlib.Core.Path.{_≡_, sym, _∙_, refl}
 use native.Mathlib.Omega.{arith}
 use borrow.Author.Needs.{needs}
 use lib.ListN.{length, drop}
-use Rattle.record_field.specs.Parsed.{exactly}
+use Rattle.record_text.specs.Parsed.{exactly}
 use Rattle.record_text.proofs.TextSteps.{text-step, text-other, text-past, text-end}
 use Rattle.record_text.proofs.line.read_text.Statement.{statement}
 use Rattle.record_text.proofs.line.read_text.Tie as tie
@@ -25,26 +25,11 @@ returns c =
     let l = c .before .before .loop in
     sym (text-past (a .text .now) (a .bytes .now) (l .i) (l .p) (omega arith) (c .if1 .taken)) ∙ l .inv .0
 
-shared-slice-read-if2 : tie.Need-shared-slice-read-if2 Inv-loop μ-loop
-shared-slice-read-if2 c = search needs
-
-shared-slice-read-if2-2 : tie.Need-shared-slice-read-if2-2 Inv-loop μ-loop
-shared-slice-read-if2-2 c = search needs
-
 returns-2 : tie.Need-returns-2 Inv-loop μ-loop
 returns-2 c =
     let a = c .before .before .before .before .before .before .args in
     let l = c .before .before .before .before .before .loop in
     sym (text-other (a .text .now) (a .bytes .now) (l .i) (l .p) (omega arith) (omega arith) (c .if2 .taken)) ∙ l .inv .0
-
-add-p : tie.Need-add-p Inv-loop μ-loop
-add-p c = search needs
-
-add-i : tie.Need-add-i Inv-loop μ-loop
-add-i c = search needs
-
-loop-less : tie.Need-loop-less Inv-loop μ-loop
-loop-less c = search needs
 
 loop-again : tie.Need-loop-again Inv-loop μ-loop
 loop-again c =
@@ -66,11 +51,11 @@ read-text-spec =
     μ-loop
     loop-holds
     returns
-    shared-slice-read-if2
-    shared-slice-read-if2-2
+    (λ c. search needs)
+    (λ c. search needs)
     returns-2
-    add-p
-    add-i
-    loop-less
+    (λ c. search needs)
+    (λ c. search needs)
+    (λ c. search needs)
     loop-again
     returns-3)

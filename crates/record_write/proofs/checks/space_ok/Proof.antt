@@ -10,14 +10,8 @@ returns c = space-short _ _ _ (c .if1 .taken)
 returns-2 : tie.Need-returns-2
 returns-2 c = let a = c .before .before .args in space-values (a .values) (a .blocks) (a .space) (c .before .if1 .left) (c .if2 .taken)
 
-mul-records : tie.Need-mul-records
-mul-records c = search needs
-
-sub-records : tie.Need-sub-records
-sub-records c = search needs
-
 returns-3 : tie.Need-returns-3
 returns-3 c = let a = c .before .before .args in space-records (a .values) (a .blocks) (a .space) (c .before .if1 .left) (c .if2 .left)
 
 pub space-ok-spec : {M : Type 1} → statement M
-space-ok-spec = tie.close (tie.spec returns returns-2 mul-records sub-records returns-3)
+space-ok-spec = tie.close (tie.spec returns returns-2 (λ c. search needs) (λ c. search needs) returns-3)

@@ -8,15 +8,6 @@ use Rattle.record_write.proofs.SpaceLaws.{write-count, write-records, w
 use Rattle.record_write.proofs.checks.write_lengths_ok.Statement.{statement}
 use Rattle.record_write.proofs.checks.write_lengths_ok.Tie as tie
 
-cast-whole-patterns : tie.Need-cast-whole-patterns
-cast-whole-patterns c = search needs
-
-whole-patterns-requires : tie.Need-whole-patterns-requires
-whole-patterns-requires c κs = tt
-
-count-ok-requires : tie.Need-count-ok-requires
-count-ok-requires c κs = tt
-
 -- whether the count is one that the whole patterns allow
 counted : (c : tie.After-count-ok) → let a = c .before .before .before .args in c .count-ok .result ≡ countOk (wholePatterns (a .sheet .n) (a .words)) (a .count)
 counted c = rw (c .before .whole-patterns .ensures) at (c .count-ok .ensures)
@@ -27,9 +18,6 @@ returns c =
     write-count (a .sheet) (wholePatterns (a .sheet .n) (a .words)) (a .count) (a .values) (a .records) (a .space)
     (sym (counted (c .before)) ∙ not-true _ (c .if1 .taken))
 
-blocks-requires : tie.Need-blocks-requires
-blocks-requires c κs = tt
-
 returns-2 : tie.Need-returns-2
 returns-2 c =
     let e = c .before .before in
@@ -37,9 +25,6 @@ returns-2 c =
     write-records (a .sheet) (wholePatterns (a .sheet .n) (a .words)) (a .count) (a .values) (a .records) (a .space)
     (sym (counted (e .before)) ∙ not-false _ (e .if1 .left))
     (rw (c .before .blocks2 .ensures) at (c .if2 .taken))
-
-space-ok-requires : tie.Need-space-ok-requires
-space-ok-requires c κs = tt
 
 returns-3 : tie.Need-returns-3
 returns-3 c =
@@ -53,4 +38,4 @@ returns-3 c =
 pub write-lengths-ok-spec : {M : Type 1} → statement M
 write-lengths-ok-spec =
     tie.close
-    (tie.spec cast-whole-patterns whole-patterns-requires count-ok-requires returns blocks-requires returns-2 space-ok-requires returns-3)
+    (tie.spec (λ c. search needs) (λ c κs. tt) (λ c κs. tt) returns (λ c κs. tt) returns-2 (λ c κs. tt) returns-3)

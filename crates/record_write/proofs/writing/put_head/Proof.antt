@@ -5,18 +5,6 @@ use Rattle.record_write.proofs.WriteLaws.{head-written}
 use Rattle.record_write.proofs.writing.put_head.Statement.{statement}
 use Rattle.record_write.proofs.writing.put_head.Tie as tie
 
-put-size-title-requires : tie.Need-put-size-title-requires
-put-size-title-requires c κs = search needs
-
-put-size-line-requires : tie.Need-put-size-line-requires
-put-size-line-requires c κs = search needs
-
-put-depth-title-requires : tie.Need-put-depth-title-requires
-put-depth-title-requires c κs = search needs
-
-same-length : tie.Need-same-length
-same-length c = search needs
-
 returns : tie.Need-returns
 returns c =
     let s = c .before .before .before .before .before .before .before .before .before .before .before .before .before in
@@ -29,8 +17,8 @@ pub put-head-spec : {M : Type 1} → statement M
 put-head-spec =
     tie.close
     (tie.spec
-    put-size-title-requires
-    put-size-line-requires
-    put-depth-title-requires
-    same-length
+    (λ c κs. search needs)
+    (λ c κs. search needs)
+    (λ c κs. search needs)
+    (λ c. search needs)
     returns)

@@ -4,122 +4,121 @@ use Prim.Native.Nat.{ℕ}
 use mathlib.Core.Path.{_≡_, sym, _∙_, ap, subst}
 use mathlib.Core.List.{List}
 use lib.ListN.{length}
+use Rattle.arith.specs.Checks.{refusal}
+use Rattle.arith.specs.Lists.{listOf}
 use Rattle.pattern.specs.Words.{patternsOf}
 use Rattle.pattern.proofs.WordLaws.{length-patterns}
-use Rattle.sheet_checks.specs.Checks.{recordsLent}
+use Rattle.record.specs.Lent.{recordAt}
 use Rattle.record_print.specs.Put.{Written}
-use Rattle.record_file.specs.Text.{fileText, recordAt, recordsAt}
-use Rattle.record_file.specs.Writing.{Source, sourceOf, firstTo, writtenRefusal, writeRefusal}
-use Rattle.record_file.proofs.RefusalLaws.{firstRefusal, lengthsOf, first-lengths, write-first, write-next, LengthsRight, accepted-parts, accepted-head, accepted-small}
+use Rattle.record_file.specs.Text.{fileText}
+use Rattle.record_file.specs.Writing.{Source, sourceOf, firstTo, writtenRefusal, writeChecks, writeRefusal}
+use Rattle.record_file.proofs.RefusalLaws.{checks, first-lengths, write-first, write-next, accepted-parts, accepted-head, accepted-small}
 use Rattle.record_write.proofs.WriteLaws.{write-refused, write-given}
 use Rattle.record_write.proofs.writing.write.Statement.{statement}
 use Rattle.record_write.proofs.writing.write.Tie as tie
 
--- what is written
+-- what is written, the list that it is judged with, and the numbers of what is lent
 abbrev source : (d : tie.Start) → Source
-source d = let a = d .args in sourceOf (a .sheet) (a .table .now) (recordAt (a .kinds .now) (a .entries .now) (a .offs0 .now) (a .offs1 .now))
+source d = sourceOf (d .args .sheet) (d .args .table .now) (recordAt (d .args .records .now))
 
 abbrev lentList : (d : tie.Start) → List ℕ
 lentList d = patternsOf (d .args .sheet .n) (d .args .list .now)
 
 abbrev records : (d : tie.Start) → ℕ
-records d = let a = d .args in recordsLent (length (a .kinds .now)) (length (a .entries .now)) (length (a .offs0 .now)) (length (a .offs1 .now))
+records d = length (d .args .records .now)
 
--- the refusal of the state and the table
-first : (c : tie.After-finished-refusal) → let d = c .before .before .before .before .before .before .before .before in c .finished-refusal .result ≡ firstRefusal (source d) (lentList d) (d .args .count) (records d) (length (d .args .out .now)) (lengthsOf (source d) (lentList d) (d .args .count) (records d) (length (d .args .out .now)))
+abbrev space : (d : tie.Start) → ℕ
+space d = length (d .args .out .now)
+
+abbrev start : tie.After-first-refusal → tie.Start
+start c = c .before .before .before .before
+
+abbrev start2 : tie.After-records-refusal → tie.Start
+start2 c = start (c .before .before .before .before)
+
+-- the refusal of what is checked first
+first :
+    (c : tie.After-first-refusal)
+    → let d = start c in c .first-refusal .result ≡ refusal (checks (source d) (lentList d) (d .args .count) (records d) (space d)) 0
 first c =
-    let d = c .before .before .before .before .before .before .before .before in
-    let a = d .args in
-    c .finished-refusal .ensures
-    ∙ ap (firstRefusal (source d) (lentList d) (a .count) (records d) (length (a .out .now)))
-    (rw (← (length-patterns (a .sheet .n) (a .list .now)), c .before .before .records-lent .ensures) at (c .before .write-lengths-ok .ensures))
+    let a = start c .args in
+    let told : ℕ → ℕ = λ patterns.
+    refusal (writeChecks (a .sheet) (a .table .now) patterns (a .count) (length (a .records .now)) (length (a .out .now))) 0 in
+    c .first-refusal .ensures ∙ ap told (sym (length-patterns (a .sheet .n) (a .list .now)))
 
--- past it
-none : (c : tie.Else1) → let d = c .before .before .before .before .before .before .before .before .before in firstRefusal (source d) (lentList d) (d .args .count) (records d) (length (d .args .out .now)) (lengthsOf (source d) (lentList d) (d .args .count) (records d) (length (d .args .out .now))) ≡ 0
+none :
+    (c : tie.Else1)
+    → let d = start (c .before) in refusal (checks (source d) (lentList d) (d .args .count) (records d) (space d)) 0 ≡ 0
 none c = sym (first (c .before)) ∙ c .if1 .left
 
-right : (c : tie.Else1) → let d = c .before .before .before .before .before .before .before .before .before in LengthsRight (d .args .sheet) (length (lentList d)) (d .args .count) (length (d .args .table .now)) (records d) (length (d .args .out .now))
-right c = let d = c .before .before .before .before .before .before .before .before .before in first-lengths (source d) (lentList d) (d .args .count) (records d) (length (d .args .out .now)) (none c)
-
 -- the refusal of the records, and so of the call
-all : (c : tie.After-records-refusal) → let d = c .before .before .before .before .before .before .before .before .before .before .before .before in c .records-refusal .result ≡ writeRefusal (source d) (lentList d) (d .args .count) (records d) (length (d .args .out .now))
+all :
+    (c : tie.After-records-refusal)
+    → let d = start2 c in c .records-refusal .result ≡ writeRefusal (source d) (lentList d) (d .args .count) (records d) (space d)
 all c =
-    let d = c .before .before .before .before .before .before .before .before .before .before .before .before in
+    let d = start2 c in
     let a = d .args in
     c .records-refusal .ensures
     ∙ ap (firstTo (λ i. writtenRefusal (a .sheet .n) (lentList d) (a .count) (source d .record-at i))) (c .before .before .blocks2 .ensures)
-    ∙ sym (write-next (source d) (lentList d) (a .count) (records d) (length (a .out .now)) (none (c .before .before .before)))
+    ∙ sym (write-next (source d) (lentList d) (a .count) (records d) (space d) (none (c .before .before .before)))
 
-good : (c : tie.Else2) → let d = c .before .before .before .before .before .before .before .before .before .before .before .before .before in writeRefusal (source d) (lentList d) (d .args .count) (records d) (length (d .args .out .now)) ≡ 0
+good :
+    (c : tie.Else2)
+    → let d = start2 (c .before) in writeRefusal (source d) (lentList d) (d .args .count) (records d) (space d) ≡ 0
 good c = sym (all (c .before)) ∙ c .if2 .left
-
-records-lent-requires : tie.Need-records-lent-requires
-records-lent-requires c κs = search needs
-
-write-lengths-ok-requires : tie.Need-write-lengths-ok-requires
-write-lengths-ok-requires c κs = search needs
-
-finished-refusal-requires : tie.Need-finished-refusal-requires
-finished-refusal-requires c κs = search needs
 
 returns : tie.Need-returns
 returns c =
-    let d = c .before .before .before .before .before .before .before .before .before in
+    let d = start (c .before) in
     let a = d .args in
     write-refused (source d) (lentList d) (a .count) (records d) (a .out .now)
-    (write-first (source d) (lentList d) (a .count) (records d) (length (a .out .now)) (first (c .before)) (c .if1 .taken)) (c .if1 .taken)
-
-blocks-requires : tie.Need-blocks-requires
-blocks-requires c κs = search needs
-
-cast-records-refusal : tie.Need-cast-records-refusal
-cast-records-refusal c = search needs
+    (write-first (source d) (lentList d) (a .count) (records d) (space d) (first (c .before)) (c .if1 .taken)) (c .if1 .taken)
 
 records-refusal-requires : tie.Need-records-refusal-requires
 records-refusal-requires c κs =
-    rw (c .before .blocks2 .ensures) (right (c .before .before) .enough)
+    let e = c .before .before in
+    let d = start (e .before) in
+    rw (c .before .blocks2 .ensures) (first-lengths (source d) (lentList d) (d .args .count) (records d) (space d) (none e) .enough)
 
 returns-2 : tie.Need-returns-2
 returns-2 c =
-    let d = c .before .before .before .before .before .before .before .before .before .before .before .before .before in
+    let d = start2 (c .before) in
     let a = d .args in
     write-refused (source d) (lentList d) (a .count) (records d) (a .out .now) (all (c .before)) (c .if2 .taken)
 
 put-file-requires : tie.Need-put-file-requires
 put-file-requires c κs =
     let g = c .before in
-    let d = g .before .before .before .before .before .before .before .before .before .before .before .before .before in
+    let d = start2 (g .before) in
     let a = d .args in
-    let p = accepted-parts (source d) (lentList d) (a .count) (records d) (length (a .out .now)) (good g) in
+    let p = accepted-parts (source d) (lentList d) (a .count) (records d) (space d) (good g) in
     rw (g .before .before .before .blocks2 .ensures) (
-      (accepted-head (source d) (lentList d) (a .count) (records d) (length (a .out .now)) p, p .lengths .room),
-      (p .lengths .enough, accepted-small (source d) (lentList d) (a .count) (records d) (length (a .out .now)) p),
+      (accepted-head (source d) (lentList d) (a .count) (records d) (space d) p, p .lengths .room),
+      (p .lengths .enough, accepted-small (source d) (lentList d) (a .count) (records d) (space d) p),
     )
-
-same-length : tie.Need-same-length
-same-length c = search needs
 
 returns-3 : tie.Need-returns-3
 returns-3 c =
-    let g = c .before .before .before .before in
-    let d = g .before .before .before .before .before .before .before .before .before .before .before .before .before in
+    let put = c .before .before in
+    let g = put .before .before in
+    let d = start2 (g .before) in
     let a = d .args in
+    let text : ℕ → List ℕ = λ k.
+    fileText (a .sheet .n) (a .sheet .width) (a .sheet .height) (a .table .now) (listOf (recordAt (a .records .now)) k) in
     write-given (source d) (lentList d) (a .count) (records d) (a .out .now) (good g)
-    (subst (λ (k : ℕ). Written (a .out .now) (c .before .before .put-file .last .0) 0 (fileText (a .sheet .n) (a .sheet .width) (a .sheet .height) (a .table .now) (recordsAt (a .kinds .now) (a .entries .now) (a .offs0 .now) (a .offs1 .now) k)) (c .before .before .put-file .result))
-    (g .before .before .before .blocks2 .ensures) (c .before .before .put-file .ensures))
+    (subst (λ (k : ℕ). Written (a .out .now) (put .put-file .last .0) 0 (text k) (put .put-file .result))
+    (g .before .before .before .blocks2 .ensures) (put .put-file .ensures))
 
 pub write-spec : {M : Type 1} → statement M
 write-spec =
     tie.close
     (tie.spec
-    records-lent-requires
-    write-lengths-ok-requires
-    finished-refusal-requires
+    (λ c κs. search needs)
     returns
-    blocks-requires
-    cast-records-refusal
+    (λ c κs. search needs)
+    (λ c. search needs)
     records-refusal-requires
     returns-2
     put-file-requires
-    same-length
+    (λ c. search needs)
     returns-3)

@@ -9,9 +9,6 @@ use Rattle.sheet.proofs.StateLaws.{lengths-are}
 use Rattle.sheet.proofs.Sheet.compose_lengths_ok.Statement.{statement}
 use Rattle.sheet.proofs.Sheet.compose_lengths_ok.Tie as tie
 
-lengths-ok-requires : tie.Need-lengths-ok-requires
-lengths-ok-requires c κs = search needs
-
 returns : tie.Need-returns
 unfolding composeLengthsOk
 returns c = rw (sym (c .before .lengths-ok .ensures) ∙ not-true _ (c .if1 .taken))
@@ -28,9 +25,6 @@ returns-2 c =
     let w = lengths-are (d .args .self) (d .args .samples) (d .args .patterns) (d .args .count) (d .args .texture) e .whole in
     rw (e, ne-eqb _ _ (λ q. c .if2 .taken (q ∙ sym w)))
 
-blocks-requires : tie.Need-blocks-requires
-blocks-requires c κs = tt
-
 returns-3 : tie.Need-returns-3
 unfolding composeLengthsOk
 returns-3 c =
@@ -41,4 +35,4 @@ returns-3 c =
 
 pub compose-lengths-ok-spec : {M : Type 1} → statement M
 compose-lengths-ok-spec =
-    tie.close (tie.spec lengths-ok-requires returns returns-2 blocks-requires returns-3)
+    tie.close (tie.spec (λ c κs. search needs) returns returns-2 (λ c κs. tt) returns-3)

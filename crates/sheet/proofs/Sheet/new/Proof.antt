@@ -2,13 +2,10 @@
 use mathlib.Core.Path.{sym, ap, _∙_}
 use Rattle.arith.specs.Checks.{refused}
 use Rattle.arith.proofs.CheckLaws.{answer-refused, answer-given}
-use Rattle.sheet_checks.specs.Checks.{newRefusal}
+use Rattle.sheet.specs.Checks.{newRefusal}
 use Rattle.sheet.specs.State.{stateOf, newAnswer}
 use Rattle.sheet.proofs.Sheet.new.Statement.{statement}
 use Rattle.sheet.proofs.Sheet.new.Tie as tie
-
-new-refusal-requires : tie.Need-new-refusal-requires
-new-refusal-requires c κs = tt
 
 returns : tie.Need-returns
 unfolding newAnswer
@@ -24,4 +21,4 @@ returns-2 c =
     answer-given (newRefusal (a .n) (a .width) (a .height)) (stateOf (a .n) (a .width) (a .height) 0) (sym (c .before .new-refusal .ensures) ∙ c .if1 .left)
 
 pub new-spec : {M : Type 1} → statement M
-new-spec = tie.close (tie.spec new-refusal-requires returns returns-2)
+new-spec = tie.close (tie.spec (λ c κs. tt) returns returns-2)

@@ -5,31 +5,10 @@ use Rattle.vectors.proofs.output.samples.Statement.{statement}
 use Rattle.vectors.proofs.output.samples.Tie as tie
 
 abbrev Inv-loop : tie.InvT-loop
-Inv-loop s i₀ i-end i = i ≤ i-end
+Inv-loop s shown c₀ i₀ i-end c i = i ≤ i-end
 
 abbrev μ-loop : tie.MeasureT-loop
-μ-loop s i₀ i-end i = i-end - i
-
-loop-holds : tie.Need-loop-holds Inv-loop μ-loop
-loop-holds c = search needs
-
-shared-slice-read-small : tie.Need-shared-slice-read-small Inv-loop μ-loop
-shared-slice-read-small c = search needs
-
-small-requires : tie.Need-small-requires Inv-loop μ-loop
-small-requires c κs = tt
-
-add-i : tie.Need-add-i Inv-loop μ-loop
-add-i c = search needs
-
-loop-less : tie.Need-loop-less Inv-loop μ-loop
-loop-less c = search needs
-
-loop-again : tie.Need-loop-again Inv-loop μ-loop
-loop-again c = search needs
-
-returns : tie.Need-returns Inv-loop μ-loop
-returns c = search needs
+μ-loop s shown c₀ i₀ i-end c i = i-end - i
 
 pub samples-spec : {M : Type 1} → statement M
 samples-spec =
@@ -37,10 +16,12 @@ samples-spec =
     (tie.spec
     Inv-loop
     μ-loop
-    loop-holds
-    shared-slice-read-small
-    small-requires
-    add-i
-    loop-less
-    loop-again
-    returns)
+    (λ c. search needs)
+    (λ c. search needs)
+    (λ c κs. search needs)
+    (λ c κs. search needs)
+    (λ c. search needs)
+    (λ c. search needs)
+    (λ c. search needs)
+    (λ c κs. search needs)
+    (λ c. search needs))

@@ -1,4 +1,4 @@
--- `candidate_of` meets its contract: the side of the line through both points that does not hold (0,0). Assumes nothing.
+-- `candidate_of` meets its contract: the side of the line through both points that does not hold (0,0).
 use Prim.Native.Nat.{_≤_}
 use mathlib.Core.Logic.{⊎-elim}
 use mathlib.Core.Path.{_∙_}
@@ -38,9 +38,6 @@ half-of-requires c κs =
       rw (c .point-y2 .ensures) (le-trans (y-lt n (d .args .e) h) small),
     )
 
-pattern-of-requires : tie.Need-pattern-of-requires
-pattern-of-requires c κs = search needs
-
 returns : tie.Need-returns
 returns c =
     let b = c .before in
@@ -59,5 +56,5 @@ candidate-of-spec =
     point-x-requires-2
     point-y-requires-2
     half-of-requires
-    pattern-of-requires
+    (λ c κs. search needs)
     returns)

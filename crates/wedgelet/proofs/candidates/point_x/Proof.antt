@@ -1,29 +1,14 @@
--- `point_x` meets its contract, case by case. Assumes nothing.
+-- `point_x` meets its contract, case by case.
 use borrow.Author.Needs.{needs}
 use borrow.Author.Tests.{lt-ltb, le-ltb}
 use Rattle.wedgelet.proofs.candidates.point_x.Statement.{statement}
 use Rattle.wedgelet.proofs.candidates.point_x.Tie as tie
 
-sub-m : tie.Need-sub-m
-sub-m c = search needs
-
 returns : tie.Need-returns
 returns c = rw (lt-ltb _ _ (c .if1 .taken))
 
-mul-if2 : tie.Need-mul-if2
-mul-if2 c = search needs
-
 returns-2 : tie.Need-returns-2
 returns-2 c = rw (le-ltb _ _ (c .before .if1 .left), lt-ltb _ _ (c .if2 .taken))
-
-mul-if3 : tie.Need-mul-if3
-mul-if3 c = search needs
-
-mul-result : tie.Need-mul-result
-mul-result c = search needs
-
-sub-result : tie.Need-sub-result
-sub-result c = search needs
 
 returns-3 : tie.Need-returns-3
 returns-3 c = rw (le-ltb _ _ (c .before .before .if1 .left), le-ltb _ _ (c .before .if2 .left), lt-ltb _ _ (c .if3 .taken))
@@ -34,4 +19,4 @@ returns-4 c = rw (le-ltb _ _ (c .before .before .if1 .left), le-ltb _ _ (c .befo
 pub point-x-spec : {M : Type 1} → statement M
 point-x-spec =
     tie.close
-    (tie.spec sub-m returns mul-if2 returns-2 mul-if3 mul-result sub-result returns-3 returns-4)
+    (tie.spec (λ c. search needs) returns (λ c. search needs) returns-2 (λ c. search needs) (λ c. search needs) (λ c. search needs) returns-3 returns-4)

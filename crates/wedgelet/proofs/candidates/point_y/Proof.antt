@@ -1,36 +1,18 @@
--- `point_y` meets its contract, case by case; past the last point a difference of natural numbers is 0. Assumes nothing.
+-- `point_y` meets its contract, case by case; past the last point a difference of natural numbers is 0.
 use native.Mathlib.Omega.{arith}
 use borrow.Author.Tests.{lt-ltb, le-ltb}
 use borrow.Author.Needs.{needs}
 use Rattle.wedgelet.proofs.candidates.point_y.Statement.{statement}
 use Rattle.wedgelet.proofs.candidates.point_y.Tie as tie
 
-sub-m : tie.Need-sub-m
-sub-m c = search needs
-
 returns : tie.Need-returns
 returns c = rw (lt-ltb _ _ (c .if1 .taken))
-
-mul-if2 : tie.Need-mul-if2
-mul-if2 c = search needs
 
 returns-2 : tie.Need-returns-2
 returns-2 c = rw (le-ltb _ _ (c .before .if1 .left), lt-ltb _ _ (c .if2 .taken))
 
-mul-if3 : tie.Need-mul-if3
-mul-if3 c = search needs
-
 returns-3 : tie.Need-returns-3
 returns-3 c = rw (le-ltb _ _ (c .before .before .if1 .left), le-ltb _ _ (c .before .if2 .left), lt-ltb _ _ (c .if3 .taken))
-
-mul-if4 : tie.Need-mul-if4
-mul-if4 c = search needs
-
-mul-result : tie.Need-mul-result
-mul-result c = search needs
-
-sub-result : tie.Need-sub-result
-sub-result c = search needs
 
 returns-4 : tie.Need-returns-4
 returns-4 c = rw (le-ltb _ _ (c .before .before .before .if1 .left), le-ltb _ _ (c .before .before .if2 .left), le-ltb _ _ (c .before .if3 .left))
@@ -42,14 +24,14 @@ pub point-y-spec : {M : Type 1} → statement M
 point-y-spec =
     tie.close
     (tie.spec
-    sub-m
+    (λ c. search needs)
     returns
-    mul-if2
+    (λ c. search needs)
     returns-2
-    mul-if3
+    (λ c. search needs)
     returns-3
-    mul-if4
-    mul-result
-    sub-result
+    (λ c. search needs)
+    (λ c. search needs)
+    (λ c. search needs)
     returns-4
     returns-5)

@@ -1,4 +1,4 @@
--- `four_is_at` meets its contract: equal numbers have equal words. Assumes nothing.
+-- `four_is_at` meets its contract: equal numbers have equal words.
 use Prim.Native.Nat.{ℕ, _+_, _<_, _^_}
 use mathlib.Core.Path.{_≡_, sym}
 use native.Mathlib.Omega.{arith}
@@ -26,47 +26,14 @@ same c q =
     let p = a .p in
     four-words-same _ _ _ _ _ _ _ _ (small c (a .at)) (small c (a .at + 1)) (small c (a .at + 2)) (search needs) (search needs) (search needs) q
 
-mul-if1 : tie.Need-mul-if1
-mul-if1 c = search needs
-
-shared-slice-read-if1 : tie.Need-shared-slice-read-if1
-shared-slice-read-if1 c = search needs
-
 returns : tie.Need-returns
 returns c = sym (ne-eqb _ _ (λ q. c .if1 .taken (same (c .before .before) q .0)))
-
-add-if2 : tie.Need-add-if2
-add-if2 c = search needs
-
-mul-if2 : tie.Need-mul-if2
-mul-if2 c = search needs
-
-shared-slice-read-if2 : tie.Need-shared-slice-read-if2
-shared-slice-read-if2 c = search needs
 
 returns-2 : tie.Need-returns-2
 returns-2 c = let d = c .before .before .before in sym (ne-eqb _ _ (λ q. c .if2 .taken (same (d .before .before) q .1)))
 
-add-if3 : tie.Need-add-if3
-add-if3 c = search needs
-
-mul-if3 : tie.Need-mul-if3
-mul-if3 c = search needs
-
-shared-slice-read-if3 : tie.Need-shared-slice-read-if3
-shared-slice-read-if3 c = search needs
-
 returns-3 : tie.Need-returns-3
 returns-3 c = let d = c .before .before .before .before .before .before in sym (ne-eqb _ _ (λ q. c .if3 .taken (same (d .before .before) q .2)))
-
-add-result : tie.Need-add-result
-add-result c = search needs
-
-mul-result : tie.Need-mul-result
-mul-result c = search needs
-
-shared-slice-read-result : tie.Need-shared-slice-read-result
-shared-slice-read-result c = search needs
 
 returns-4 : tie.Need-returns-4
 returns-4 c =
@@ -81,18 +48,18 @@ pub four-is-at-spec : {M : Type 1} → statement M
 four-is-at-spec =
     tie.close
     (tie.spec
-    mul-if1
-    shared-slice-read-if1
+    (λ c. search needs)
+    (λ c. search needs)
     returns
-    add-if2
-    mul-if2
-    shared-slice-read-if2
+    (λ c. search needs)
+    (λ c. search needs)
+    (λ c. search needs)
     returns-2
-    add-if3
-    mul-if3
-    shared-slice-read-if3
+    (λ c. search needs)
+    (λ c. search needs)
+    (λ c. search needs)
     returns-3
-    add-result
-    mul-result
-    shared-slice-read-result
+    (λ c. search needs)
+    (λ c. search needs)
+    (λ c. search needs)
     returns-4)

@@ -1,4 +1,4 @@
--- `is_at` meets its contract: one word is compared, or four. Assumes nothing.
+-- `is_at` meets its contract: one word is compared, or four.
 use borrow.Author.Needs.{needs}
 use mathlib.Core.Path.{sym, ap, ap₂, _∙_}
 use Prim.Native.Nat.{ℕ}

@@ -1,4 +1,4 @@
--- `put` meets its contract: one word is stored, or four. Assumes nothing.
+-- `put` meets its contract: one word is stored, or four.
 use Prim.Native.Nat.{ℕ, _*_}
 use mathlib.Core.Path.{sym, ap, ap₂, _∙_}
 use native.Mathlib.Nat.{one-mul}
@@ -18,9 +18,6 @@ mul-list c = let a = c .before .before .args in omega (arith, room-narrow (a .n)
 slice-write-list : tie.Need-slice-write-list
 slice-write-list c = let a = c .before .before .args in room-narrow (a .n) (a .entry) (length (a .list .now)) (c .if1 .taken) (c .before .before .pre .0)
 
-same-length : tie.Need-same-length
-same-length c = search needs
-
 returns : tie.Need-returns
 returns c =
     let d = c .before .before in
@@ -37,9 +34,6 @@ mul-put-four c = let e = c .before in let a = e .before .before .args in omega (
 
 put-four-requires : tie.Need-put-four-requires
 put-four-requires c κs = let e = c .before in let a = e .before .before .args in room-wide (a .n) (a .entry) (length (a .list .now)) (e .if1 .left) (e .before .before .pre .0)
-
-same-length-2 : tie.Need-same-length-2
-same-length-2 c = search needs
 
 returns-2 : tie.Need-returns-2
 returns-2 c =
@@ -58,9 +52,9 @@ put-spec =
     (tie.spec
     mul-list
     slice-write-list
-    same-length
+    (λ c. search needs)
     returns
     mul-put-four
     put-four-requires
-    same-length-2
+    (λ c. search needs)
     returns-2)

@@ -1,4 +1,4 @@
--- `half_of` meets its contract: a product of two coordinates is at most 225. Assumes nothing.
+-- `half_of` meets its contract: a product of two coordinates is at most 225.
 use Prim.Native.Nat.{ℕ, _*_, _≤_, _<_}
 use native.Mathlib.Nat.{mul-le-mul}
 use native.Mathlib.Omega.{arith}

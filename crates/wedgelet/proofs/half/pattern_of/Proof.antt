@@ -1,4 +1,4 @@
--- `pattern_of` meets its contract: all rows in one word, or four rows to a word. Assumes nothing.
+-- `pattern_of` meets its contract: all rows in one word, or four rows to a word.
 use mathlib.Core.Logic.{⊎-elim}
 use mathlib.Core.Path.{_≡_, _∙_}
 use native.Mathlib.Omega.{arith}
@@ -11,9 +11,6 @@ use Rattle.wedgelet.proofs.half.pattern_of.Tie as tie
 
 rows-requires : tie.Need-rows-requires
 rows-requires c κs = let p = c .before .pre in (p .0, omega arith, square-64 (c .if1 .taken), omega arith, p .2)
-
-one-word-requires : tie.Need-one-word-requires
-one-word-requires c κs = search needs
 
 returns : tie.Need-returns
 returns c =
@@ -46,7 +43,7 @@ pattern-of-spec =
     tie.close
     (tie.spec
     rows-requires
-    one-word-requires
+    (λ c κs. search needs)
     returns
     rows-requires-2
     rows-requires-3

@@ -1,4 +1,4 @@
--- `row` meets its contract: the marks run up to the column where one sum catches the other up, or from there on. Assumes nothing.
+-- `row` meets its contract: the marks run up to the column where one sum catches the other up, or from there on.
 use Prim.Native.Nat.{ℕ, _-_, min}
 use mathlib.Core.Path.{refl, ap, ap₂, _∙_}
 use native.Mathlib.Omega.{arith}
@@ -11,27 +11,6 @@ returns : tie.Need-returns
 returns c =
     let a = c .before .before .args in
     row-none (a .low) (a .lcol) (a .high) (a .hcol) (a .n) (c .before .if1 .taken) (c .if2 .taken)
-
-sub-quotient : tie.Need-sub-quotient
-sub-quotient c = search needs
-
-quotient-requires : tie.Need-quotient-requires
-quotient-requires c κs = search needs
-
-lesser-requires : tie.Need-lesser-requires
-lesser-requires c κs = search needs
-
-shl-result : tie.Need-shl-result
-shl-result c = search needs
-
-add-lesser : tie.Need-add-lesser
-add-lesser c = search needs
-
-lesser-requires-2 : tie.Need-lesser-requires-2
-lesser-requires-2 c κs = search needs
-
-shl-result-2 : tie.Need-shl-result-2
-shl-result-2 c = search needs
 
 sub-result : tie.Need-sub-result
 sub-result c =
@@ -46,9 +25,6 @@ returns-2 c =
     ∙ row-back (a .low) (a .lcol) (a .high) (a .hcol) (a .n) (e .before .if1 .taken) (e .if2 .left) (c .before .lesser .result)
     (c .before .lesser .ensures ∙ ap (λ (x : ℕ). min x (a .n)) (c .before .before .quotient .ensures))
 
-shl-result-3 : tie.Need-shl-result-3
-shl-result-3 c = search needs
-
 sub-result-2 : tie.Need-sub-result-2
 sub-result-2 c = shifted-pos (c .before .before .args .n) (omega arith)
 
@@ -56,30 +32,6 @@ returns-3 : tie.Need-returns-3
 returns-3 c =
     let a = c .before .before .args in
     ap (λ (x : ℕ). x - 1) (shifted-to (a .n) (omega arith) refl) ∙ row-all (a .low) (a .lcol) (a .high) (a .hcol) (a .n) (c .before .if1 .left) (c .if3 .taken)
-
-sub-quotient-2 : tie.Need-sub-quotient-2
-sub-quotient-2 c = search needs
-
-sub-quotient-3 : tie.Need-sub-quotient-3
-sub-quotient-3 c = search needs
-
-sub-quotient-4 : tie.Need-sub-quotient-4
-sub-quotient-4 c = search needs
-
-quotient-requires-2 : tie.Need-quotient-requires-2
-quotient-requires-2 c κs = search needs
-
-lesser-requires-3 : tie.Need-lesser-requires-3
-lesser-requires-3 c κs = search needs
-
-add-lesser-2 : tie.Need-add-lesser-2
-add-lesser-2 c = search needs
-
-lesser-requires-4 : tie.Need-lesser-requires-4
-lesser-requires-4 c κs = search needs
-
-shl-result-4 : tie.Need-shl-result-4
-shl-result-4 c = search needs
 
 sub-result-3 : tie.Need-sub-result-3
 sub-result-3 c = shifted-pos (c .lesser4 .result) (omega (arith, c .lesser4 .ensures))
@@ -97,25 +49,25 @@ row-spec =
     tie.close
     (tie.spec
     returns
-    sub-quotient
-    quotient-requires
-    lesser-requires
-    shl-result
-    add-lesser
-    lesser-requires-2
-    shl-result-2
+    (λ c. search needs)
+    (λ c κs. search needs)
+    (λ c κs. search needs)
+    (λ c. search needs)
+    (λ c. search needs)
+    (λ c κs. search needs)
+    (λ c. search needs)
     sub-result
     returns-2
-    shl-result-3
+    (λ c. search needs)
     sub-result-2
     returns-3
-    sub-quotient-2
-    sub-quotient-3
-    sub-quotient-4
-    quotient-requires-2
-    lesser-requires-3
-    add-lesser-2
-    lesser-requires-4
-    shl-result-4
+    (λ c. search needs)
+    (λ c. search needs)
+    (λ c. search needs)
+    (λ c κs. search needs)
+    (λ c κs. search needs)
+    (λ c. search needs)
+    (λ c κs. search needs)
+    (λ c. search needs)
     sub-result-3
     returns-4)

@@ -1,4 +1,4 @@
--- `rows` meets its contract: after k rows the word holds their marks, and the sums are those of the next row's column 0. Assumes nothing.
+-- `rows` meets its contract: after k rows the word holds their marks, and the sums are those of the next row's column 0.
 use Prim.Native.Nat.{ℕ, _+_, _-_, _*_, _≤_}
 use mathlib.Core.Path.{_≡_, refl, sym, ap, _∙_}
 use native.Mathlib.Nat.{add-zero, zero-mul}

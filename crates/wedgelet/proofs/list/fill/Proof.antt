@@ -1,5 +1,5 @@
 -- `fill` meets its contract: after each candidate the front of the slice holds the words of the list so far, the rest its old content, and
--- the entries are chained by their number of marks. Assumes nothing.
+-- the entries are chained by their number of marks.
 use borrow.Author.Needs.{needs}
 use borrow.Author.Tests.{eqb-true, eqb-false}
 use Prim.Native.Nat.{ℕ, _+_, _-_, _*_, _^_, _≤_, _<_}
@@ -79,9 +79,6 @@ fits c k h =
     let same : length (a .next .list) ≡ length (z .args .list .now) = a .next .inv .1 .front .same ∙ a .before .before .loop .inv .1 .front .same in
     rw same (room-at (z .args .n) k (length (z .args .list .now)) (omega (arith, free c)) (z .pre .2))
 
-sub-last : tie.Need-sub-last Inv-loop2 μ-loop2 Inv-next μ-next Inv-loop μ-loop
-sub-last c = search needs
-
 mul-last : tie.Need-mul-last Inv-loop2 μ-loop2 Inv-next μ-next Inv-loop μ-loop
 mul-last c = let h = n-le (c .before) in omega arith
 
@@ -96,9 +93,6 @@ next-holds c = (omega arith, grown-self (c .before .loop .inv .1))
 add-e : tie.Need-add-e Inv-loop2 μ-loop2 Inv-next μ-next Inv-loop μ-loop
 add-e c = omega (arith, n-le (start (c .before .before .before .before)))
 
-next-less : tie.Need-next-less Inv-loop2 μ-loop2 Inv-next μ-next Inv-loop μ-loop
-next-less c = search needs
-
 next-again : tie.Need-next-again Inv-loop2 μ-loop2 Inv-next μ-next Inv-loop μ-loop
 next-again c = (omega arith, grown-as (skip-same _ _ _ _ (c .if1 .taken)) (c .before .before .next .inv .1))
 
@@ -106,17 +100,11 @@ candidate-of-requires :
     tie.Need-candidate-of-requires Inv-loop2 μ-loop2 Inv-next μ-next Inv-loop μ-loop
 candidate-of-requires c κs = let z = start (turn c .before .before) in (omega arith, z .pre .1)
 
-marks-requires : tie.Need-marks-requires Inv-loop2 μ-loop2 Inv-next μ-next Inv-loop μ-loop
-marks-requires c κs = tt
-
 cast-m : tie.Need-cast-m Inv-loop2 μ-loop2 Inv-next μ-next Inv-loop μ-loop
 cast-m c = omega (arith, c .marks .ensures .1)
 
 add-e-2 : tie.Need-add-e-2 Inv-loop2 μ-loop2 Inv-next μ-next Inv-loop μ-loop
 add-e-2 c = omega (arith, n-le (start (turn (c .before .before .before) .before .before)))
-
-next-less-2 : tie.Need-next-less-2 Inv-loop2 μ-loop2 Inv-next μ-next Inv-loop μ-loop
-next-less-2 c = search needs
 
 mul-k : tie.Need-mul-k Inv-loop2 μ-loop2 Inv-next μ-next Inv-loop μ-loop
 mul-k c = omega (arith, c .before .marks .ensures .1)
@@ -129,9 +117,6 @@ loop2-holds c =
     let d = c .before in
     (refl, passed-first _ (omega (arith, d .marks .ensures .1)) (d .marks .ensures .0) (turn (d .before .before) .next .inv .1 .chain))
 
-sub-is-at : tie.Need-sub-is-at Inv-loop2 μ-loop2 Inv-next μ-next Inv-loop μ-loop
-sub-is-at c = search needs
-
 is-at-requires : tie.Need-is-at-requires Inv-loop2 μ-loop2 Inv-next μ-next Inv-loop μ-loop
 is-at-requires c κs =
     let b = c .before .before in
@@ -141,12 +126,6 @@ is-at-requires c κs =
 
 add-e-3 : tie.Need-add-e-3 Inv-loop2 μ-loop2 Inv-next μ-next Inv-loop μ-loop
 add-e-3 c = let b = c .before .before .before .before in omega (arith, b .loop2 .inv .0, n-le (start (turn (b .before .before .before .before) .before .before)))
-
-next-less-3 : tie.Need-next-less-3 Inv-loop2 μ-loop2 Inv-next μ-next Inv-loop μ-loop
-next-less-3 c = search needs
-
-sub-k : tie.Need-sub-k Inv-loop2 μ-loop2 Inv-next μ-next Inv-loop μ-loop
-sub-k c = search needs
 
 mul-k-2 : tie.Need-mul-k-2 Inv-loop2 μ-loop2 Inv-next μ-next Inv-loop μ-loop
 mul-k-2 c = let b = c .before .before .before .before in omega (arith, b .loop2 .inv .1 .within, few (b .before .before .before .before))
@@ -209,9 +188,6 @@ add-count c = omega (arith, few (new c .before))
 add-e-4 : tie.Need-add-e-4 Inv-loop2 μ-loop2 Inv-next μ-next Inv-loop μ-loop
 add-e-4 c = let b = c .before .before .before .before .before in omega (arith, b .loop2 .inv .0, n-le (start (turn (new c .before) .before .before)))
 
-next-less-4 : tie.Need-next-less-4 Inv-loop2 μ-loop2 Inv-next μ-next Inv-loop μ-loop
-next-less-4 c = search needs
-
 next-again-4 : tie.Need-next-again-4 Inv-loop2 μ-loop2 Inv-next μ-next Inv-loop μ-loop
 next-again-4 c =
     let q = c .before .before in
@@ -248,9 +224,6 @@ next-again-3 c =
 add-s : tie.Need-add-s Inv-loop2 μ-loop2 Inv-next μ-next Inv-loop μ-loop
 add-s c = omega (arith, n-le (start (c .before .before .before)))
 
-loop-less : tie.Need-loop-less Inv-loop2 μ-loop2 Inv-next μ-next Inv-loop μ-loop
-loop-less c = search needs
-
 loop-again : tie.Need-loop-again Inv-loop2 μ-loop2 Inv-next μ-next Inv-loop μ-loop
 unfolding starts
 loop-again c =
@@ -285,28 +258,28 @@ fill-spec =
     μ-next
     Inv-loop
     μ-loop
-    sub-last
+    (λ c. search needs)
     mul-last
     loop-holds
     next-holds
     add-e
-    next-less
+    (λ c. search needs)
     next-again
     candidate-of-requires
-    marks-requires
+    (λ c κs. tt)
     cast-m
     add-e-2
-    next-less-2
+    (λ c. search needs)
     next-again-2
     mul-k
     array-read-k
     loop2-holds
-    sub-is-at
+    (λ c. search needs)
     is-at-requires
     add-e-3
-    next-less-3
+    (λ c. search needs)
     next-again-3
-    sub-k
+    (λ c. search needs)
     mul-k-2
     array-read-k-2
     loop2-less
@@ -321,10 +294,10 @@ fill-spec =
     array-write-latest
     add-count
     add-e-4
-    next-less-4
+    (λ c. search needs)
     next-again-4
     add-s
-    loop-less
+    (λ c. search needs)
     loop-again
     same-length
     returns)

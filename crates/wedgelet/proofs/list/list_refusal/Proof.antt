@@ -1,4 +1,4 @@
--- `list_refusal` meets its contract, check by check. Assumes nothing.
+-- `list_refusal` meets its contract, check by check.
 use Prim.Native.Nat.{ℕ, _≤_, _*_}
 use mathlib.Core.Bool.{true, false}
 use mathlib.Core.Path.{_≡_, sym, ap, _∙_}
@@ -11,9 +11,6 @@ use Rattle.wedgelet.proofs.AnswerLaws.{patterns-enough, words-enough}
 use borrow.Author.Needs.{needs}
 use Rattle.wedgelet.proofs.list.list_refusal.Statement.{statement}
 use Rattle.wedgelet.proofs.list.list_refusal.Tie as tie
-
-size-ok-requires : tie.Need-size-ok-requires
-size-ok-requires c κs = search needs
 
 returns : tie.Need-returns
 unfolding listRefusal
@@ -36,9 +33,6 @@ sub-last c = omega (arith, range c)
 mul-last : tie.Need-mul-last
 mul-last c = omega (arith, range c)
 
-words-of-requires : tie.Need-words-of-requires
-words-of-requires c κs = search needs
-
 sub-if2 : tie.Need-sub-if2
 sub-if2 c = omega (arith, range (c .before))
 
@@ -60,11 +54,11 @@ pub list-refusal-spec : {M : Type 1} → statement M
 list-refusal-spec =
     tie.close
     (tie.spec
-    size-ok-requires
+    (λ c κs. search needs)
     returns
     sub-last
     mul-last
-    words-of-requires
+    (λ c κs. search needs)
     sub-if2
     mul-if2
     mul-if2-2

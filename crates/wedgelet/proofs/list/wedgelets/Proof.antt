@@ -1,4 +1,4 @@
--- `wedgelets` meets its contract: the refusal with the slice as it was, or the list in the front of the slice. Assumes nothing.
+-- `wedgelets` meets its contract: the refusal with the slice as it was, or the list in the front of the slice.
 use Prim.Native.Nat.{_*_}
 use mathlib.Core.List.{_++_}
 use mathlib.Core.Path.{_≡_, sym, ap, _∙_}
@@ -13,9 +13,6 @@ use Rattle.wedgelet.specs.Answer.{listRefusal, listAnswer, listAfter}
 use Rattle.wedgelet.proofs.AnswerLaws.{list-fits}
 use Rattle.wedgelet.proofs.list.wedgelets.Statement.{statement}
 use Rattle.wedgelet.proofs.list.wedgelets.Tie as tie
-
-list-refusal-requires : tie.Need-list-refusal-requires
-list-refusal-requires c κs = tt
 
 returns : tie.Need-returns
 unfolding listAnswer listAfter
@@ -37,9 +34,6 @@ fill-requires c κs =
     let f = list-fits (a .n) (length (a .list .now)) (none (c .before)) in
     (omega arith, f .cases, f .room)
 
-same-length : tie.Need-same-length
-same-length c = search needs
-
 returns-2 : tie.Need-returns-2
 unfolding listAnswer listAfter
 returns-2 c =
@@ -53,4 +47,4 @@ returns-2 c =
 
 pub wedgelets-spec : {M : Type 1} → statement M
 wedgelets-spec =
-    tie.close (tie.spec list-refusal-requires returns fill-requires same-length returns-2)
+    tie.close (tie.spec (λ c κs. tt) returns fill-requires (λ c. search needs) returns-2)

@@ -1,2 +1,0 @@
--- Laws of the checks of a choice.
-pub mod AcceptLaws

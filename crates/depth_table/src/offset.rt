@@ -1,0 +1,60 @@
+// Offsets, and the table value that a depth and an offset give (document 01, "Predicted block").
+ghost use mathlib.Core.Path.{_≡_};
+ghost use Prim.Native.Nat.{_-_};
+ghost use Rattle.arith.specs.Distance.{clamped};
+ghost use Rattle.depth_table.specs.Offset.{offsetOk};
+ghost use Rattle.depth_table.specs.Answer.{valueAnswer, valueTold};
+use crate::DepthIndex;
+use crate::DepthValue;
+use crate::Valued;
+use pattern::check;
+use pattern::lesser;
+
+// Whether an offset is -255 to 255.
+pub fn offset_ok(off: i32) -> bool
+    ensures { λ r. ⌜ r ≡ offsetOk off ⌝ }
+{
+    if off < -255 {
+        return false;
+    }
+    if off > 255 {
+        return false;
+    }
+    true
+}
+
+// a - b, or 0 where b is the greater.
+fn minus(a: usize, b: usize) -> usize
+    ensures { λ r. ⌜ r ≡ a - b ⌝ }
+{
+    if a < b { 0 } else { a - b }
+}
+
+// The place of an index plus an offset, clamped to 0 .. count - 1.
+fn clamped_place(count: usize, index: DepthIndex, off: i32) -> usize
+    ensures { λ r. ⌜ r ≡ clamped count (index .0) off ⌝ }
+{
+    let i = index.0;
+    let last = minus(count, 1);
+    if off < 0 {
+        let steps = (-1 - off) as usize;
+        return lesser(minus(i, steps + 1), last);
+    }
+    let steps = off as usize;
+    if last < i {
+        return last;
+    }
+    i + lesser(steps, last - i)
+}
+
+// The table value at an index plus an offset, clamped; or refusal 3 where there is no value, or 4.
+pub fn value_at(table: &[u8], index: DepthIndex, off: i32) -> Valued
+    ensures { λ r. ⌜ valueTold r ≡ valueAnswer (now (table .entry)) (index .0) off ⌝ }
+{
+    let number = check(0 < table.len(), 3, check(offset_ok(off), 4, 0));
+    if number != 0 {
+        return Valued::Refused(number);
+    }
+    let k = clamped_place(table.len(), index, off);
+    Valued::At(DepthValue(table[k]))
+}

@@ -1,3 +1,0 @@
--- Laws of offsets.
-pub mod OffsetLaws
-pub mod LevelLaws

@@ -1,2 +1,0 @@
--- Document 01, "Predicted block": offsets.
-pub mod Offset

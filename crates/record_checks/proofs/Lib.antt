@@ -1,3 +1,0 @@
--- Laws of the definitions.
-pub mod RefusalLaws
-pub mod MeaningLaws

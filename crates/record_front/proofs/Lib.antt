@@ -1,3 +1,0 @@
--- Laws of reading lines.
-pub mod ReadLaws
-pub mod PartLaws

@@ -1,0 +1,16 @@
+-- `light_at` meets its contract, by whether texture is lent.
+use native.Mathlib.Omega.{arith}
+use Rattle.sheet.proofs.placing.light_at.Statement.{statement}
+use Rattle.sheet.proofs.placing.light_at.Tie as tie
+
+returns : tie.Need-returns
+returns c = λ h. absurd (omega (arith, c .if1 .taken))
+
+cut-at-requires : tie.Need-cut-at-requires
+cut-at-requires c κs = c .before .before .pre (omega (arith, c .if1 .left))
+
+returns-2 : tie.Need-returns-2
+returns-2 c = λ h. c .cut-at .ensures
+
+pub light-at-spec : {M : Type 1} → statement M
+light-at-spec = tie.close (tie.spec returns cut-at-requires returns-2)

@@ -1,4 +1,0 @@
--- Laws of the definitions.
-pub mod GridLaws
-pub mod SampleLaws
-pub mod AnswerLaws

@@ -1,3 +1,0 @@
--- Laws of printing a sheet and a refusal.
-pub mod PrintLaws
-pub mod CallLaws

@@ -1,6 +1,0 @@
--- Laws of what `show` prints.
-pub mod SampleLaws
-pub mod AidLaws
-pub mod ShowLaws
-pub mod PrefixLaws
-pub mod FirstBytes

@@ -1,9 +1,0 @@
--- Document 01's number and values for each case of the code's answers. Assumes nothing.
-use Prim.Native.Nat.{ℕ}
-use Rattle.arith.specs.Checks.{Answer, refused, given}
-use Rattle.sheet_text.specs.declared.showing.Shown.{Shown}
-use Rattle.sheet_text.specs.declared.showing.Shown.the-variants as shown
-
-abbrev pub shownTold : Shown → Answer ℕ
-shownTold (shown.Length length) = given length
-shownTold (shown.Refused number) = refused number

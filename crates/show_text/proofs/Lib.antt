@@ -1,0 +1,7 @@
+-- Laws of what `show` prints.
+pub mod PrintLaws
+pub mod SampleLaws
+pub mod AidLaws
+pub mod ShowLaws
+pub mod PrefixLaws
+pub mod FirstBytes
