@@ -11,5 +11,4 @@ returns c =
     c .choose-refusal .ensures ∙ refusal-before (a .n) (a .border .now) (a .original .now) (a .table .now) (a .reach) (a .texture .now)
 
 pub built-refusal-spec : {M : Type 1} → statement M
-built-refusal-spec =
-    tie.close (tie.spec (λ c. search needs) (λ c κs. search needs) returns)
+built-refusal-spec = tie.close (tie.spec (λ c. search needs) (λ c κs. search needs) returns)

@@ -43,14 +43,5 @@ returns-4 c =
 
 pub depth-bench-pattern-of-spec : {M : Type 1} → statement M
 depth-bench-pattern-of-spec =
-    tie.close
-    (tie.spec
-    (λ c κs. search needs)
-    (λ c κs. search needs)
-    returns
-    wedgelet-pattern-requires
-    contour-pattern-requires
-    (λ c κs. search needs)
-    returns-2
-    returns-3
-    returns-4)
+    tie.close (tie.spec (λ c κs. search needs) (λ c κs. search needs) returns wedgelet-pattern-requires contour-pattern-requires
+    (λ c κs. search needs) returns-2 returns-3 returns-4)

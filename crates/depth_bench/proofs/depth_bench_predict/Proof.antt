@@ -28,13 +28,5 @@ returns-2 c =
 
 pub depth-bench-predict-spec : {M : Type 1} → statement M
 depth-bench-predict-spec =
-    tie.close
-    (tie.spec
-    (λ c κs. tt)
-    (λ c. search needs)
-    (λ c. search needs)
-    (λ c κs. tt)
-    (λ c. search needs)
-    returns
-    (λ c. search needs)
+    tie.close (tie.spec (λ c κs. tt) (λ c. search needs) (λ c. search needs) (λ c κs. tt) (λ c. search needs) returns (λ c. search needs)
     returns-2)

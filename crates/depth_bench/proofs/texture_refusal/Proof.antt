@@ -16,5 +16,4 @@ unfolding samplesRefusal
 returns-2 c = rw (ne-eqb _ _ (c .before .if1 .left)) (c .samples-refusal .ensures)
 
 pub texture-refusal-spec : {M : Type 1} → statement M
-texture-refusal-spec =
-    tie.close (tie.spec (λ c κs. search needs) (λ c κs. search needs) returns (λ c κs. search needs) returns-2)
+texture-refusal-spec = tie.close (tie.spec (λ c κs. search needs) (λ c κs. search needs) returns (λ c κs. search needs) returns-2)

@@ -23,5 +23,4 @@ returns-2 : tie.Need-returns-2
 returns-2 c = cc
 
 pub told-spec : {M : Type 1} → statement M
-told-spec =
-    tie.close (tie.spec (λ c. search needs) (λ c. search needs) (λ c κs. tt) returns returns-2)
+told-spec = tie.close (tie.spec (λ c. search needs) (λ c. search needs) (λ c κs. tt) returns returns-2)

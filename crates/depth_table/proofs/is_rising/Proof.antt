@@ -40,16 +40,5 @@ returns-2 c = sym (rising-end _ _ _ (c .loop-test .left)) ∙ c .before .loop .i
 
 pub is-rising-spec : {M : Type 1} → statement M
 is-rising-spec =
-    tie.close
-    (tie.spec
-    Inv-loop
-    μ-loop
-    loop-holds
-    (λ c. search needs)
-    (λ c κs. search needs)
-    returns
-    add-low
-    (λ c. search needs)
-    (λ c. search needs)
-    loop-again
-    returns-2)
+    tie.close (tie.spec Inv-loop μ-loop loop-holds (λ c. search needs) (λ c κs. search needs) returns add-low (λ c. search needs)
+    (λ c. search needs) loop-again returns-2)

@@ -21,13 +21,5 @@ returns-2 c =
 
 pub file-calls-write-spec : {M : Type 1} → statement M
 file-calls-write-spec =
-    tie.close
-    (tie.spec
-    (λ c κs. search needs)
-    (λ c. search needs)
-    (λ c. search needs)
-    (λ c κs. search needs)
-    (λ c. search needs)
-    returns
-    (λ c. search needs)
-    returns-2)
+    tie.close (tie.spec (λ c κs. search needs) (λ c. search needs) (λ c. search needs) (λ c κs. search needs) (λ c. search needs) returns
+    (λ c. search needs) returns-2)

@@ -23,18 +23,6 @@ slice-aggregate-write-all c = inside (c .before .before) .1
 
 pub main-spec : {M : Type 1} → statement M
 main-spec =
-    tie.close
-    (tie.spec
-    (λ c. search needs)
-    (λ c κs. search needs)
-    (λ c. search needs)
-    (λ c. search needs)
-    (λ c. search needs)
-    (λ c κs. search needs)
-    (λ c. search needs)
-    array-share-prefix-text
-    slice-aggregate-write-all
-    (λ c κs. search needs)
-    (λ c. search needs)
-    (λ c. search needs)
-    (λ c. search needs))
+    tie.close (tie.spec (λ c. search needs) (λ c κs. search needs) (λ c. search needs) (λ c. search needs) (λ c. search needs)
+    (λ c κs. search needs) (λ c. search needs) array-share-prefix-text slice-aggregate-write-all (λ c κs. search needs) (λ c. search needs)
+    (λ c. search needs) (λ c. search needs))

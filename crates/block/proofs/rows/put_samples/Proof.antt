@@ -80,20 +80,5 @@ returns c =
 
 pub put-samples-spec : {M : Type 1} → statement M
 put-samples-spec =
-    tie.close
-    (tie.spec
-    Inv-loop
-    μ-loop
-    mul-k-end
-    loop-holds
-    div-samples
-    rem-samples
-    mul-samples
-    index-1-samples
-    index-2-samples
-    slice-write-samples
-    add-k
-    loop-less
-    loop-again
-    same-length
-    returns)
+    tie.close (tie.spec Inv-loop μ-loop mul-k-end loop-holds div-samples rem-samples mul-samples index-1-samples index-2-samples
+    slice-write-samples add-k loop-less loop-again same-length returns)

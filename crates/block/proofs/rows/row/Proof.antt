@@ -38,16 +38,5 @@ returns c = fill-end capacity _ _ _ 0 (c .before .loop .inv .1) (omega arith) (o
 
 pub row-spec : {M : Type 1} → statement M
 row-spec =
-    tie.close
-    (tie.spec
-    Inv-loop
-    μ-loop
-    loop-holds
-    mul-r
-    add-r
-    shared-slice-read-r
-    (λ c. search needs)
-    (λ c. search needs)
-    (λ c. search needs)
-    loop-again
-    returns)
+    tie.close (tie.spec Inv-loop μ-loop loop-holds mul-r add-r shared-slice-read-r (λ c. search needs) (λ c. search needs)
+    (λ c. search needs) loop-again returns)

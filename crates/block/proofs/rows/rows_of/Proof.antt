@@ -27,15 +27,5 @@ returns c = fill-end capacity _ _ _ (replicate capacity 0) (c .before .loop .inv
 
 pub rows-of-spec : {M : Type 1} → statement M
 rows-of-spec =
-    tie.close
-    (tie.spec
-    Inv-loop
-    μ-loop
-    (λ c. (omega arith, sym (upto-none capacity _ (replicate capacity 0))))
-    (λ c κs. search needs)
-    (λ c. search needs)
-    (λ c. search needs)
-    (λ c. search needs)
-    (λ c. search needs)
-    loop-again
-    returns)
+    tie.close (tie.spec Inv-loop μ-loop (λ c. (omega arith, sym (upto-none capacity _ (replicate capacity 0)))) (λ c κs. search needs)
+    (λ c. search needs) (λ c. search needs) (λ c. search needs) (λ c. search needs) loop-again returns)

@@ -38,6 +38,4 @@ returns-2 c =
     )
 
 pub write-block-spec : {M : Type 1} → statement M
-write-block-spec =
-    tie.close
-    (tie.spec (λ c κs. tt) returns put-samples-requires (λ c. search needs) returns-2)
+write-block-spec = tie.close (tie.spec (λ c κs. tt) returns put-samples-requires (λ c. search needs) returns-2)

@@ -46,12 +46,4 @@ returns-2 c =
     (e, told-least C e)
 
 pub choose-spec : {M : Type 1} → statement M
-choose-spec =
-    tie.close
-    (tie.spec
-    (λ c κs. tt)
-    returns
-    (λ c κs. tt)
-    best-pattern-requires
-    record-of-requires
-    returns-2)
+choose-spec = tie.close (tie.spec (λ c κs. tt) returns (λ c κs. tt) best-pattern-requires record-of-requires returns-2)

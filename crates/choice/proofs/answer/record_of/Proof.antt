@@ -19,5 +19,4 @@ returns-2 c =
     rw (c .before .before .offset-of .ensures, c .before .offset-of2 .ensures, toZ-ofZ {w = w32} (offset-fits (s .args .p .trial0) (omega arith)), toZ-ofZ {w = w32} (offset-fits (s .args .p .trial1) (omega arith)), le-ltb _ _ (c .if1 .left))
 
 pub record-of-spec : {M : Type 1} → statement M
-record-of-spec =
-    tie.close (tie.spec (λ c κs. search needs) (λ c κs. search needs) (λ c. search needs) returns returns-2)
+record-of-spec = tie.close (tie.spec (λ c κs. search needs) (λ c κs. search needs) (λ c. search needs) returns returns-2)

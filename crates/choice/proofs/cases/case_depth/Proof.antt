@@ -49,13 +49,4 @@ returns-3 c = given-never (sym (ap sidesTold (c .enum-told .given .1)) ∙ told 
 
 pub case-depth-spec : {M : Type 1} → statement M
 case-depth-spec =
-    tie.close
-    (tie.spec
-    first-row-requires
-    (λ c κs. tt)
-    (λ c κs. tt)
-    (λ c. search needs)
-    returns
-    (λ c. search needs)
-    returns-2
-    returns-3)
+    tie.close (tie.spec first-row-requires (λ c κs. tt) (λ c κs. tt) (λ c. search needs) returns (λ c. search needs) returns-2 returns-3)

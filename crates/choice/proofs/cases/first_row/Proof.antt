@@ -20,5 +20,4 @@ returns c =
 
 pub first-row-spec : {M : Type 1} → statement M
 first-row-spec =
-    tie.close
-    (tie.spec (λ c κs. search needs) (λ c κs. search needs) (λ c. search needs) (λ c. search needs) add-result returns)
+    tie.close (tie.spec (λ c κs. search needs) (λ c κs. search needs) (λ c. search needs) (λ c. search needs) add-result returns)

@@ -37,22 +37,6 @@ returns c =
 
 pub equal-layers-spec : {M : Type 1} → statement M
 equal-layers-spec =
-    tie.close
-    (tie.spec
-    Inv-loop
-    μ-loop
-    loop-holds
-    (λ c. search needs)
-    (λ c κs. tt)
-    (λ c. search needs)
-    (λ c. search needs)
-    (λ c. search needs)
-    (λ c. search needs)
-    (λ c. search needs)
-    add-layers
-    (λ c. search needs)
-    (λ c. search needs)
-    (λ c. search needs)
-    (λ c. search needs)
-    loop-again
-    returns)
+    tie.close (tie.spec Inv-loop μ-loop loop-holds (λ c. search needs) (λ c κs. tt) (λ c. search needs) (λ c. search needs)
+    (λ c. search needs) (λ c. search needs) (λ c. search needs) add-layers (λ c. search needs) (λ c. search needs) (λ c. search needs)
+    (λ c. search needs) loop-again returns)

@@ -46,20 +46,5 @@ returns c =
 
 pub plane-spec : {M : Type 1} → statement M
 plane-spec =
-    tie.close
-    (tie.spec
-    Inv-loop
-    μ-loop
-    (λ c κs. search needs)
-    loop-holds
-    (λ c. search needs)
-    (λ c. search needs)
-    (λ c. search needs)
-    (λ c κs. tt)
-    (λ c. search needs)
-    (λ c. search needs)
-    add-word
-    (λ c. search needs)
-    (λ c. search needs)
-    loop-again
-    returns)
+    tie.close (tie.spec Inv-loop μ-loop (λ c κs. search needs) loop-holds (λ c. search needs) (λ c. search needs) (λ c. search needs)
+    (λ c κs. tt) (λ c. search needs) (λ c. search needs) add-word (λ c. search needs) (λ c. search needs) loop-again returns)

@@ -61,22 +61,6 @@ returns-2 c =
 
 pub best-down-spec : {M : Type 1} → statement M
 best-down-spec =
-    tie.close
-    (tie.spec
-    add-turn
-    turn-requires
-    (λ c. search needs)
-    (λ c. search needs)
-    (λ c κs. search needs)
-    (λ c. search needs)
-    (λ c κs. search needs)
-    (λ c κs. search needs)
-    (λ c. search needs)
-    number-down-requires
-    (λ c. search needs)
-    returns
-    (λ c κs. search needs)
-    (λ c. search needs)
-    number-down-requires-2
-    (λ c κs. search needs)
-    returns-2)
+    tie.close (tie.spec add-turn turn-requires (λ c. search needs) (λ c. search needs) (λ c κs. search needs) (λ c. search needs)
+    (λ c κs. search needs) (λ c κs. search needs) (λ c. search needs) number-down-requires (λ c. search needs) returns
+    (λ c κs. search needs) (λ c. search needs) number-down-requires-2 (λ c κs. search needs) returns-2)

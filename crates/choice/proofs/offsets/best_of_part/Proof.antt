@@ -136,25 +136,7 @@ returns-3 c =
 
 pub best-of-part-spec : {M : Type 1} → statement M
 best-of-part-spec =
-    tie.close
-    (tie.spec
-    size-of-requires
-    (λ c. search needs)
-    (λ c. search needs)
-    (λ c κs. search needs)
-    (λ c. search needs)
-    (λ c κs. search needs)
-    (λ c. search needs)
-    (λ c. search needs)
-    (λ c κs. search needs)
-    (λ c. search needs)
-    count-below-requires
-    (λ c. search needs)
-    best-up-requires
-    returns
-    count-below-requires-2
-    (λ c. search needs)
-    best-down-requires
-    returns-2
-    cost-at-requires
+    tie.close (tie.spec size-of-requires (λ c. search needs) (λ c. search needs) (λ c κs. search needs) (λ c. search needs)
+    (λ c κs. search needs) (λ c. search needs) (λ c. search needs) (λ c κs. search needs) (λ c. search needs) count-below-requires
+    (λ c. search needs) best-up-requires returns count-below-requires-2 (λ c. search needs) best-down-requires returns-2 cost-at-requires
     returns-3)

@@ -44,16 +44,5 @@ returns c = let s = facts (c .before) in (omega arith, omega arith)
 
 pub cost-at-spec : {M : Type 1} → statement M
 cost-at-spec =
-    tie.close
-    (tie.spec
-    (λ c. search needs)
-    (λ c κs. search needs)
-    (λ c κs. search needs)
-    mul-result
-    mul-result-2
-    add-result
-    mul-result-3
-    mul-result-4
-    add-result-2
-    sub-result
-    returns)
+    tie.close (tie.spec (λ c. search needs) (λ c κs. search needs) (λ c κs. search needs) mul-result mul-result-2 add-result mul-result-3
+    mul-result-4 add-result-2 sub-result returns)

@@ -58,18 +58,5 @@ returns c =
 
 pub flipped-sum-spec : {M : Type 1} → statement M
 flipped-sum-spec =
-    tie.close
-    (tie.spec
-    Inv-loop
-    μ-loop
-    (λ c κs. search needs)
-    loop-holds
-    mul-sum
-    (λ c κs. search needs)
-    (λ c κs. tt)
-    (λ c κs. search needs)
-    add-sum
-    (λ c. search needs)
-    (λ c. search needs)
-    loop-again
-    returns)
+    tie.close (tie.spec Inv-loop μ-loop (λ c κs. search needs) loop-holds mul-sum (λ c κs. search needs) (λ c κs. tt) (λ c κs. search needs)
+    add-sum (λ c. search needs) (λ c. search needs) loop-again returns)

@@ -58,18 +58,5 @@ returns-3 c =
 
 pub choose-refusal-spec : {M : Type 1} → statement M
 choose-refusal-spec =
-    tie.close
-    (tie.spec
-    (λ c κs. tt)
-    returns
-    (λ c κs. tt)
-    lengths-ok-requires
-    returns-2
-    (λ c κs. tt)
-    (λ c κs. tt)
-    (λ c κs. tt)
-    (λ c κs. tt)
-    (λ c κs. tt)
-    (λ c κs. tt)
-    (λ c κs. tt)
-    returns-3)
+    tie.close (tie.spec (λ c κs. tt) returns (λ c κs. tt) lengths-ok-requires returns-2 (λ c κs. tt) (λ c κs. tt) (λ c κs. tt) (λ c κs. tt)
+    (λ c κs. tt) (λ c κs. tt) (λ c κs. tt) returns-3)

@@ -48,15 +48,5 @@ returns-2 c =
 
 pub words-ok-spec : {M : Type 1} → statement M
 words-ok-spec =
-    tie.close
-    (tie.spec
-    Inv-loop
-    μ-loop
-    loop-holds
-    (λ c κs. tt)
-    (λ c κs. tt)
-    returns
-    (λ c. search needs)
-    (λ c. search needs)
-    loop-again
+    tie.close (tie.spec Inv-loop μ-loop loop-holds (λ c κs. tt) (λ c κs. tt) returns (λ c. search needs) (λ c. search needs) loop-again
     returns-2)

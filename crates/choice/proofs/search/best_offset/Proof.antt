@@ -28,11 +28,4 @@ returns c =
     )
 
 pub best-offset-spec : {M : Type 1} → statement M
-best-offset-spec =
-    tie.close
-    (tie.spec
-    (λ c κs. tt)
-    (λ c. search needs)
-    (λ c. search needs)
-    best-of-part-requires
-    returns)
+best-offset-spec = tie.close (tie.spec (λ c κs. tt) (λ c. search needs) (λ c. search needs) best-of-part-requires returns)

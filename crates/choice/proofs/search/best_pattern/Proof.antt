@@ -120,22 +120,6 @@ returns c =
 
 pub best-pattern-spec : {M : Type 1} → statement M
 best-pattern-spec =
-    tie.close
-    (tie.spec
-    Inv-loop
-    μ-loop
-    below-layers-requires
-    bit-planes-requires
-    case-indices-requires
-    contour-or-none-requires
-    (λ c κs. tt)
-    add-end
-    (λ c κs. tt)
-    best-sides-requires
-    loop-holds
-    (λ c κs. tt)
-    best-sides-requires-2
-    add-p
-    (λ c. search needs)
-    loop-again
+    tie.close (tie.spec Inv-loop μ-loop below-layers-requires bit-planes-requires case-indices-requires contour-or-none-requires
+    (λ c κs. tt) add-end (λ c κs. tt) best-sides-requires loop-holds (λ c κs. tt) best-sides-requires-2 add-p (λ c. search needs) loop-again
     returns)

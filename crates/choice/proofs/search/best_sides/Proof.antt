@@ -26,4 +26,5 @@ returns : tie.Need-returns
 returns c = both-sides _ _ (c .before .before .before .best-offset .ensures .0) (c .before .before .best-offset2 .ensures .0)
 
 pub best-sides-spec : {M : Type 1} → statement M
-best-sides-spec = tie.close (tie.spec side-case-requires best-offset-requires (λ c. search needs) best-offset-requires-2 (λ c. search needs) returns)
+best-sides-spec =
+    tie.close (tie.spec side-case-requires best-offset-requires (λ c. search needs) best-offset-requires-2 (λ c. search needs) returns)

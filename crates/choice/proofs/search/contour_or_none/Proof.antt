@@ -19,6 +19,4 @@ returns-2 c =
     ∙ contour-refused (s .args .n) (s .args .texture .now) (s .pre) (e .before .before .contour .ensures) (ap contourTold (e .enum-told .given .1))
 
 pub contour-or-none-spec : {M : Type 1} → statement M
-contour-or-none-spec =
-    tie.close
-    (tie.spec (λ c κs. search needs) (λ c. search needs) (λ c. search needs) (λ c κs. tt) returns returns-2)
+contour-or-none-spec = tie.close (tie.spec (λ c κs. search needs) (λ c. search needs) (λ c. search needs) (λ c κs. tt) returns returns-2)

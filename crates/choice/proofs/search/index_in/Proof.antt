@@ -20,5 +20,4 @@ returns-2 : tie.Need-returns-2
 returns-2 c = given-never (sym (ap indexTold (c .enum-told .given .1)) ∙ told (c .before .before))
 
 pub index-in-spec : {M : Type 1} → statement M
-index-in-spec =
-    tie.close (tie.spec (λ c κs. tt) (λ c. search needs) (λ c. search needs) returns returns-2)
+index-in-spec = tie.close (tie.spec (λ c κs. tt) (λ c. search needs) (λ c. search needs) returns returns-2)

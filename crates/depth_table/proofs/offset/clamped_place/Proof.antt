@@ -56,17 +56,5 @@ returns-3 c =
 
 pub clamped-place-spec : {M : Type 1} → statement M
 clamped-place-spec =
-    tie.close
-    (tie.spec
-    (λ c κs. tt)
-    sub-steps
-    cast-steps
-    add-minus
-    (λ c κs. tt)
-    (λ c κs. tt)
-    returns
-    cast-steps-2
-    returns-2
-    (λ c κs. tt)
-    (λ c. search needs)
-    returns-3)
+    tie.close (tie.spec (λ c κs. tt) sub-steps cast-steps add-minus (λ c κs. tt) (λ c κs. tt) returns cast-steps-2 returns-2 (λ c κs. tt)
+    (λ c. search needs) returns-3)

@@ -62,17 +62,5 @@ returns c = let e : c .before .loop .i ≡ c .before .before .before .args .coun
 
 pub above-spec : {M : Type 1} → statement M
 above-spec =
-    tie.close
-    (tie.spec
-    Inv-loop
-    μ-loop
-    loop-holds
-    add-wide
-    shared-slice-read-wide
-    (λ c κs. tt)
-    shl-w
-    add-w
-    add-i
-    loop-less
-    loop-again
+    tie.close (tie.spec Inv-loop μ-loop loop-holds add-wide shared-slice-read-wide (λ c κs. tt) shl-w add-w add-i loop-less loop-again
     returns)

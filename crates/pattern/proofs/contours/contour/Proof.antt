@@ -89,21 +89,5 @@ returns-2 c =
 
 pub contour-spec : {M : Type 1} → statement M
 contour-spec =
-    tie.close
-    (tie.spec
-    (λ c κs. tt)
-    returns
-    mean-requires
-    mul-c0
-    (λ c κs. tt)
-    (λ c κs. tt)
-    (λ c κs. tt)
-    (λ c κs. tt)
-    above-requires
-    (λ c κs. tt)
-    above-requires-2
-    (λ c κs. tt)
-    above-requires-3
-    (λ c κs. tt)
-    above-requires-4
-    returns-2)
+    tie.close (tie.spec (λ c κs. tt) returns mean-requires mul-c0 (λ c κs. tt) (λ c κs. tt) (λ c κs. tt) (λ c κs. tt) above-requires
+    (λ c κs. tt) above-requires-2 (λ c κs. tt) above-requires-3 (λ c κs. tt) above-requires-4 returns-2)

@@ -60,18 +60,5 @@ returns c =
 
 pub mean-spec : {M : Type 1} → statement M
 mean-spec =
-    tie.close
-    (tie.spec
-    Inv-loop
-    μ-loop
-    mul-i-end
-    loop-holds
-    shared-slice-read-wide
-    (λ c κs. tt)
-    add-sum
-    add-i
-    loop-less
-    loop-again
-    mul-result
-    div-result
-    returns)
+    tie.close (tie.spec Inv-loop μ-loop mul-i-end loop-holds shared-slice-read-wide (λ c κs. tt) add-sum add-i loop-less loop-again
+    mul-result div-result returns)

@@ -20,13 +20,5 @@ returns-4 c = c .bit-at4 .ensures ∙ sym (bit-in-3 _ _ _ _ _ (search needs) (se
 
 pub mark-at-spec : {M : Type 1} → statement M
 mark-at-spec =
-    tie.close
-    (tie.spec
-    (λ c κs. search needs)
-    returns
-    (λ c κs. search needs)
-    returns-2
-    (λ c κs. search needs)
-    returns-3
-    (λ c κs. search needs)
-    returns-4)
+    tie.close (tie.spec (λ c κs. search needs) returns (λ c κs. search needs) returns-2 (λ c κs. search needs) returns-3
+    (λ c κs. search needs) returns-4)

@@ -55,15 +55,5 @@ returns-3 c =
 
 pub pattern-at-spec : {M : Type 1} → statement M
 pattern-at-spec =
-    tie.close
-    (tie.spec
-    (λ c κs. tt)
-    (λ c κs. tt)
-    returns
-    mul-one-word
-    shared-slice-read-one-word
-    (λ c κs. tt)
-    returns-2
-    mul-four-at
-    four-at-requires
-    returns-3)
+    tie.close (tie.spec (λ c κs. tt) (λ c κs. tt) returns mul-one-word shared-slice-read-one-word (λ c κs. tt) returns-2 mul-four-at
+    four-at-requires returns-3)

@@ -44,14 +44,5 @@ returns-3 c = given-never (sym (ap valueTold (c .enum-told2 .given .1)) ∙ valu
 
 pub level-spec : {M : Type 1} → statement M
 level-spec =
-    tie.close
-    (tie.spec
-    (λ c κs. search needs)
-    (λ c. search needs)
-    (λ c. search needs)
-    returns
-    (λ c κs. search needs)
-    (λ c. search needs)
-    (λ c. search needs)
-    returns-2
-    returns-3)
+    tie.close (tie.spec (λ c κs. search needs) (λ c. search needs) (λ c. search needs) returns (λ c κs. search needs) (λ c. search needs)
+    (λ c. search needs) returns-2 returns-3)

@@ -49,16 +49,5 @@ returns c =
 
 pub paint-spec : {M : Type 1} → statement M
 paint-spec =
-    tie.close
-    (tie.spec
-    Inv-loop
-    μ-loop
-    loop-holds
-    (λ c κs. tt)
-    (λ c κs. tt)
-    slice-write-block
-    (λ c. search needs)
-    loop-less
-    loop-again
-    same-length
-    returns)
+    tie.close (tie.spec Inv-loop μ-loop loop-holds (λ c κs. tt) (λ c κs. tt) slice-write-block (λ c. search needs) loop-less loop-again
+    same-length returns)

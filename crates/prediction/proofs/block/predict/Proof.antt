@@ -91,17 +91,5 @@ returns-2 c =
 
 pub predict-spec : {M : Type 1} → statement M
 predict-spec =
-    tie.close
-    (tie.spec
-    (λ c κs. tt)
-    (λ c κs. tt)
-    returns
-    (λ c κs. tt)
-    value-of-requires
-    value-of-requires-2
-    (λ c κs. tt)
-    (λ c κs. tt)
-    (λ c κs. tt)
-    (λ c κs. tt)
-    (λ c. search needs)
-    returns-2)
+    tie.close (tie.spec (λ c κs. tt) (λ c κs. tt) returns (λ c κs. tt) value-of-requires value-of-requires-2 (λ c κs. tt) (λ c κs. tt)
+    (λ c κs. tt) (λ c κs. tt) (λ c. search needs) returns-2)

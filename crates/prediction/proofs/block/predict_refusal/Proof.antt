@@ -40,18 +40,5 @@ returns-2 c =
 
 pub predict-refusal-spec : {M : Type 1} → statement M
 predict-refusal-spec =
-    tie.close
-    (tie.spec
-    (λ c κs. tt)
-    returns
-    lengths-ok-requires
-    (λ c κs. tt)
-    (λ c κs. tt)
-    (λ c κs. tt)
-    (λ c κs. tt)
-    (λ c κs. tt)
-    (λ c κs. tt)
-    (λ c κs. tt)
-    (λ c κs. tt)
-    (λ c κs. tt)
-    returns-2)
+    tie.close (tie.spec (λ c κs. tt) returns lengths-ok-requires (λ c κs. tt) (λ c κs. tt) (λ c κs. tt) (λ c κs. tt) (λ c κs. tt)
+    (λ c κs. tt) (λ c κs. tt) (λ c κs. tt) (λ c κs. tt) returns-2)

@@ -38,5 +38,4 @@ returns-2 c =
     (toZ-ofZ w32 _ (start .fits .off0) ∙ off))
 
 pub value-of-spec : {M : Type 1} → statement M
-value-of-spec =
-    tie.close (tie.spec side-depth-requires level-requires returns level-requires-2 returns-2)
+value-of-spec = tie.close (tie.spec side-depth-requires level-requires returns level-requires-2 returns-2)

@@ -16,6 +16,4 @@ returns c =
     c .differs .ensures ∙ ap₂ differ (marks .before .mark-at .ensures) (marks .mark-at2 .ensures) ∙ sym (hor-edge-bits _ _)
 
 pub hor-edge-spec : {M : Type 1} → statement M
-hor-edge-spec =
-    tie.close
-    (tie.spec (λ c κs. tt) (λ c. search needs) mul-mark-at (λ c κs. tt) (λ c κs. tt) returns)
+hor-edge-spec = tie.close (tie.spec (λ c κs. tt) (λ c. search needs) mul-mark-at (λ c κs. tt) (λ c κs. tt) returns)

@@ -16,6 +16,4 @@ returns-2 c =
     c .lt-of .ensures ∙ this-side _ _ _ _ (marks .differs .ensures) (marks .before .mark-at .ensures) (c .before .if1 .left)
 
 pub side-depth-spec : {M : Type 1} → statement M
-side-depth-spec =
-    tie.close
-    (tie.spec (λ c κs. tt) (λ c κs. tt) (λ c κs. search needs) returns (λ c κs. search needs) returns-2)
+side-depth-spec = tie.close (tie.spec (λ c κs. tt) (λ c κs. tt) (λ c κs. search needs) returns (λ c κs. search needs) returns-2)

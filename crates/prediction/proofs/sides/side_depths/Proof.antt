@@ -43,5 +43,4 @@ returns-2 c =
     ∙ answer-given _ _ (sym (judged (test .before)) ∙ test .if1 .left)
 
 pub side-depths-spec : {M : Type 1} → statement M
-side-depths-spec =
-    tie.close (tie.spec (λ c κs. tt) (λ c κs. tt) returns lt-of-requires br-of-requires returns-2)
+side-depths-spec = tie.close (tie.spec (λ c κs. tt) (λ c κs. tt) returns lt-of-requires br-of-requires returns-2)

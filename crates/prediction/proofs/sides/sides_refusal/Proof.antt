@@ -46,6 +46,4 @@ returns-4 c =
     )
 
 pub sides-refusal-spec : {M : Type 1} → statement M
-sides-refusal-spec =
-    tie.close
-    (tie.spec (λ c κs. tt) returns mul-if2 returns-2 (λ c κs. tt) returns-3 returns-4)
+sides-refusal-spec = tie.close (tie.spec (λ c κs. tt) returns mul-if2 returns-2 (λ c κs. tt) returns-3 returns-4)

@@ -12,5 +12,4 @@ returns c =
     c .differs .ensures ∙ ap₂ differ (marks .before .mark-at .ensures) (marks .mark-at2 .ensures) ∙ sym (vert-edge-bits _ _)
 
 pub vert-edge-spec : {M : Type 1} → statement M
-vert-edge-spec =
-    tie.close (tie.spec (λ c κs. tt) (λ c. search needs) (λ c κs. tt) (λ c κs. tt) returns)
+vert-edge-spec = tie.close (tie.spec (λ c κs. tt) (λ c. search needs) (λ c κs. tt) (λ c κs. tt) returns)

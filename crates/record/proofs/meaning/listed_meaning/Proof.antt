@@ -26,11 +26,4 @@ returns-2 c = given-by (told (c .before)) (c .if1 .left) (ap listed (c .before .
 
 pub listed-meaning-spec : {M : Type 1} → statement M
 listed-meaning-spec =
-    tie.close
-    (tie.spec
-    (λ c κs. search needs)
-    (λ c κs. search needs)
-    (λ c κs. search needs)
-    (λ c κs. search needs)
-    returns
-    returns-2)
+    tie.close (tie.spec (λ c κs. search needs) (λ c κs. search needs) (λ c κs. search needs) (λ c κs. search needs) returns returns-2)

@@ -19,12 +19,4 @@ returns-3 c =
     meaning-other (d .args .n) _ (d .args .count) (d .args .textured) (d .args .r) (c .match .rest .0 .1) (c .match .rest .1)
 
 pub meaning-of-spec : {M : Type 1} → statement M
-meaning-of-spec =
-    tie.close
-    (tie.spec
-    (λ c κs. search needs)
-    (λ c κs. search needs)
-    (λ c κs. search needs)
-    returns
-    returns-2
-    returns-3)
+meaning-of-spec = tie.close (tie.spec (λ c κs. search needs) (λ c κs. search needs) (λ c κs. search needs) returns returns-2 returns-3)

@@ -18,5 +18,4 @@ returns c =
 
 pub offset-refusal-spec : {M : Type 1} → statement M
 offset-refusal-spec =
-    tie.close
-    (tie.spec (λ c κs. search needs) (λ c κs. search needs) (λ c κs. search needs) (λ c κs. search needs) returns)
+    tie.close (tie.spec (λ c κs. search needs) (λ c κs. search needs) (λ c κs. search needs) (λ c κs. search needs) returns)

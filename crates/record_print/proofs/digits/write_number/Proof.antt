@@ -36,5 +36,4 @@ unfolding numberText
 returns c = written-then (c .before .before .write-numeral .ensures) (written-byte _ _ _)
 
 pub write-number-spec : {M : Type 1} → statement M
-write-number-spec =
-    tie.close (tie.spec write-numeral-requires slice-write-out add-result (λ c. search needs) returns)
+write-number-spec = tie.close (tie.spec write-numeral-requires slice-write-out add-result (λ c. search needs) returns)

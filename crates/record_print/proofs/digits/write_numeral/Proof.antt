@@ -65,20 +65,5 @@ returns c =
 
 pub write-numeral-spec : {M : Type 1} → statement M
 write-numeral-spec =
-    tie.close
-    (tie.spec
-    Inv-loop
-    μ-loop
-    (λ c κs. tt)
-    loop-holds
-    (λ c. search needs)
-    (λ c κs. search needs)
-    add-out
-    cast-out
-    slice-write-out
-    (λ c κs. search needs)
-    (λ c. search needs)
-    (λ c. search needs)
-    loop-again
-    (λ c. search needs)
-    returns)
+    tie.close (tie.spec Inv-loop μ-loop (λ c κs. tt) loop-holds (λ c. search needs) (λ c κs. search needs) add-out cast-out slice-write-out
+    (λ c κs. search needs) (λ c. search needs) (λ c. search needs) loop-again (λ c. search needs) returns)

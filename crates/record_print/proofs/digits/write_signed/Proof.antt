@@ -70,15 +70,5 @@ returns-2 c = written-as (c .before .before .write-number2 .ensures) (none-text 
 
 pub write-signed-spec : {M : Type 1} → statement M
 write-signed-spec =
-    tie.close
-    (tie.spec
-    slice-write-out
-    (λ c. search needs)
-    (λ c κs. search needs)
-    write-number-requires
-    same-length
-    returns
-    (λ c κs. search needs)
-    write-number-requires-2
-    (λ c. search needs)
-    returns-2)
+    tie.close (tie.spec slice-write-out (λ c. search needs) (λ c κs. search needs) write-number-requires same-length returns
+    (λ c κs. search needs) write-number-requires-2 (λ c. search needs) returns-2)

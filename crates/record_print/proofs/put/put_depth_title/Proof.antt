@@ -9,5 +9,4 @@ unfolding depthTitle
 returns c = c .before .before .put-text .ensures
 
 pub put-depth-title-spec : {M : Type 1} → statement M
-put-depth-title-spec =
-    tie.close (tie.spec (λ c. search needs) (λ c κs. tt) (λ c. search needs) returns)
+put-depth-title-spec = tie.close (tie.spec (λ c. search needs) (λ c κs. tt) (λ c. search needs) returns)

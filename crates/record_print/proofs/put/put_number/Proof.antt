@@ -45,14 +45,5 @@ returns-2 c = made-put (made (c .before .before .before .before .before .before)
 
 pub put-number-spec : {M : Type 1} → statement M
 put-number-spec =
-    tie.close
-    (tie.spec
-    (λ c κs. tt)
-    returns
-    (λ c. search needs)
-    write-number-requires
-    array-share-prefix-line
-    slice-aggregate-put-text
-    (λ c κs. tt)
-    (λ c. search needs)
-    returns-2)
+    tie.close (tie.spec (λ c κs. tt) returns (λ c. search needs) write-number-requires array-share-prefix-line slice-aggregate-put-text
+    (λ c κs. tt) (λ c. search needs) returns-2)

@@ -9,5 +9,4 @@ unfolding recordTitle
 returns c = c .before .before .put-text .ensures
 
 pub put-record-title-spec : {M : Type 1} → statement M
-put-record-title-spec =
-    tie.close (tie.spec (λ c. search needs) (λ c κs. tt) (λ c. search needs) returns)
+put-record-title-spec = tie.close (tie.spec (λ c. search needs) (λ c κs. tt) (λ c. search needs) returns)

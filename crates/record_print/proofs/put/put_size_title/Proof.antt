@@ -9,5 +9,4 @@ unfolding sizeTitle
 returns c = c .before .before .put-text .ensures
 
 pub put-size-title-spec : {M : Type 1} → statement M
-put-size-title-spec =
-    tie.close (tie.spec (λ c. search needs) (λ c κs. tt) (λ c. search needs) returns)
+put-size-title-spec = tie.close (tie.spec (λ c. search needs) (λ c κs. tt) (λ c. search needs) returns)

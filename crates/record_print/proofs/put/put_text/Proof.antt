@@ -50,20 +50,5 @@ returns-3 c =
 
 pub put-text-spec : {M : Type 1} → statement M
 put-text-spec =
-    tie.close
-    (tie.spec
-    Inv-loop
-    μ-loop
-    returns
-    (λ c. search needs)
-    returns-2
-    loop-holds
-    (λ c. search needs)
-    (λ c. search needs)
-    (λ c. search needs)
-    (λ c. search needs)
-    (λ c. search needs)
-    loop-again
-    (λ c. search needs)
-    (λ c. search needs)
-    returns-3)
+    tie.close (tie.spec Inv-loop μ-loop returns (λ c. search needs) returns-2 loop-holds (λ c. search needs) (λ c. search needs)
+    (λ c. search needs) (λ c. search needs) (λ c. search needs) loop-again (λ c. search needs) (λ c. search needs) returns-3)

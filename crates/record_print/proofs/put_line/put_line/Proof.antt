@@ -19,12 +19,5 @@ returns c = made-put (c .before .before .before .before .before .before .write-l
 
 pub put-line-spec : {M : Type 1} → statement M
 put-line-spec =
-    tie.close
-    (tie.spec
-    (λ c. search needs)
-    write-line-requires
-    (λ c. search needs)
-    slice-aggregate-put-text
-    (λ c κs. tt)
-    (λ c. search needs)
-    returns)
+    tie.close (tie.spec (λ c. search needs) write-line-requires (λ c. search needs) slice-aggregate-put-text (λ c κs. tt)
+    (λ c. search needs) returns)

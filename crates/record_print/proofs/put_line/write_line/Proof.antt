@@ -89,20 +89,5 @@ returns-2 c =
 
 pub write-line-spec : {M : Type 1} → statement M
 write-line-spec =
-    tie.close
-    (tie.spec
-    Inv-loop
-    μ-loop
-    loop-holds
-    (λ c κs. search needs)
-    (λ c κs. tt)
-    same-length
-    returns
-    (λ c. search needs)
-    (λ c κs. tt)
-    write-signed-requires
-    (λ c. search needs)
-    (λ c. search needs)
-    loop-again
-    same-length-2
-    returns-2)
+    tie.close (tie.spec Inv-loop μ-loop loop-holds (λ c κs. search needs) (λ c κs. tt) same-length returns (λ c. search needs) (λ c κs. tt)
+    write-signed-requires (λ c. search needs) (λ c. search needs) loop-again same-length-2 returns-2)

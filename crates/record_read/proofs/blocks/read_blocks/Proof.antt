@@ -122,27 +122,6 @@ returns-3 c =
 
 pub read-blocks-spec : {M : Type 1} → statement M
 read-blocks-spec =
-    tie.close
-    (tie.spec
-    Inv-loop
-    μ-loop
-    (λ c κs. tt)
-    loop-holds
-    read-block-requires
-    (λ c. search needs)
-    (λ c κs. tt)
-    mul-t22
-    slice-set-from-records
-    (λ c. search needs)
-    (λ c. search needs)
-    same-length-2
-    returns
-    add-i
-    (λ c. search needs)
-    loop-again
-    same-length-3
-    same-length-4
-    returns-2
-    same-length-5
-    same-length-6
-    returns-3)
+    tie.close (tie.spec Inv-loop μ-loop (λ c κs. tt) loop-holds read-block-requires (λ c. search needs) (λ c κs. tt) mul-t22
+    slice-set-from-records (λ c. search needs) (λ c. search needs) same-length-2 returns add-i (λ c. search needs) loop-again same-length-3
+    same-length-4 returns-2 same-length-5 same-length-6 returns-3)

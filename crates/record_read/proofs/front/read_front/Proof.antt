@@ -31,12 +31,5 @@ returns-2 c = let a = c .before .before .before .before .before .before .args in
 
 pub read-front-spec : {M : Type 1} → statement M
 read-front-spec =
-    tie.close
-    (tie.spec
-    (λ c κs. search needs)
-    (λ c. search needs)
-    (λ c κs. search needs)
-    (λ c. search needs)
-    read-table-requires
-    returns
+    tie.close (tie.spec (λ c κs. search needs) (λ c. search needs) (λ c κs. search needs) (λ c. search needs) read-table-requires returns
     returns-2)

@@ -14,12 +14,5 @@ returns-2 c = let a = c .before .before .before .before .before .before .args in
 
 pub title-line-spec : {M : Type 1} → statement M
 title-line-spec =
-    tie.close
-    (tie.spec
-    (λ c κs. search needs)
-    (λ c. search needs)
-    (λ c. search needs)
-    (λ c. search needs)
-    (λ c κs. search needs)
-    returns
+    tie.close (tie.spec (λ c κs. search needs) (λ c. search needs) (λ c. search needs) (λ c. search needs) (λ c κs. search needs) returns
     returns-2)

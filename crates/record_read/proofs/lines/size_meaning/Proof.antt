@@ -28,13 +28,4 @@ returns-5 c = let a = c .before .before .before .before .before .before .before 
 
 pub size-meaning-spec : {M : Type 1} → statement M
 size-meaning-spec =
-    tie.close
-    (tie.spec
-    (λ c κs. search needs)
-    returns
-    (λ c κs. search needs)
-    returns-2
-    returns-3
-    (λ c. search needs)
-    returns-4
-    returns-5)
+    tie.close (tie.spec (λ c κs. search needs) returns (λ c κs. search needs) returns-2 returns-3 (λ c. search needs) returns-4 returns-5)

@@ -29,13 +29,4 @@ returns-4 : tie.Need-returns-4
 returns-4 c = let x = c .before .before .before .before .before .before .before .args in value-right (x .k) (x .low) (it (c .before .before .before)) (c .before .if1 .left) (c .if2 .left)
 
 pub value-line-spec : {M : Type 1} → statement M
-value-line-spec =
-    tie.close
-    (tie.spec
-    (λ c κs. search needs)
-    (λ c. search needs)
-    (λ c. search needs)
-    returns
-    returns-2
-    returns-3
-    returns-4)
+value-line-spec = tie.close (tie.spec (λ c κs. search needs) (λ c. search needs) (λ c. search needs) returns returns-2 returns-3 returns-4)

@@ -69,23 +69,6 @@ returns-2 c =
 
 pub read-values-spec : {M : Type 1} → statement M
 read-values-spec =
-    tie.close
-    (tie.spec
-    Inv-loop
-    μ-loop
-    loop-holds
-    (λ c. search needs)
-    (λ c κs. search needs)
-    (λ c. search needs)
-    narrow-requires
-    (λ c. search needs)
-    (λ c. search needs)
-    add-low
-    (λ c. search needs)
-    (λ c. search needs)
-    returns
-    (λ c. search needs)
-    (λ c. search needs)
-    loop-again
-    (λ c. search needs)
-    returns-2)
+    tie.close (tie.spec Inv-loop μ-loop loop-holds (λ c. search needs) (λ c κs. search needs) (λ c. search needs) narrow-requires
+    (λ c. search needs) (λ c. search needs) add-low (λ c. search needs) (λ c. search needs) returns (λ c. search needs) (λ c. search needs)
+    loop-again (λ c. search needs) returns-2)

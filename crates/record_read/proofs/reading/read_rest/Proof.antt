@@ -65,18 +65,6 @@ returns c =
 
 pub read-rest-spec : {M : Type 1} → statement M
 read-rest-spec =
-    tie.close
-    (tie.spec
-    (λ c. search needs)
-    (λ c. search needs)
-    mul-area
-    (λ c. search needs)
-    add-t14
-    slice-relend-prefix-read-blocks
-    slice-aggregate-read-blocks
-    array-share-prefix-table
-    slice-aggregate-read-blocks-2
-    read-blocks-requires
-    same-length
-    (λ c. search needs)
+    tie.close (tie.spec (λ c. search needs) (λ c. search needs) mul-area (λ c. search needs) add-t14 slice-relend-prefix-read-blocks
+    slice-aggregate-read-blocks array-share-prefix-table slice-aggregate-read-blocks-2 read-blocks-requires same-length (λ c. search needs)
     returns)

@@ -81,20 +81,6 @@ returns c =
 
 pub read-sheet-spec : {M : Type 1} → statement M
 read-sheet-spec =
-    tie.close
-    (tie.spec
-    (λ c. search needs)
-    (λ c. search needs)
-    read-rest-requires
-    told-back-requires
-    (λ c. search needs)
-    (λ c. search needs)
-    mul-area
-    slice-aggregate-copy-samples
-    copy-samples-requires
-    slice-aggregate-copy-records
-    (λ c. search needs)
-    copy-records-requires
-    (λ c. search needs)
-    (λ c. search needs)
-    returns)
+    tie.close (tie.spec (λ c. search needs) (λ c. search needs) read-rest-requires told-back-requires (λ c. search needs)
+    (λ c. search needs) mul-area slice-aggregate-copy-samples copy-samples-requires slice-aggregate-copy-records (λ c. search needs)
+    copy-records-requires (λ c. search needs) (λ c. search needs) returns)

@@ -14,12 +14,5 @@ returns-2 c = rw (c .before .enum-told .given .1, c .blocks2 .ensures)
 
 pub told-back-spec : {M : Type 1} → statement M
 told-back-spec =
-    tie.close
-    (tie.spec
-    (λ c. search needs)
-    (λ c κs. search needs)
-    (λ c. search needs)
-    (λ c κs. search needs)
-    (λ c. search needs)
-    returns
+    tie.close (tie.spec (λ c. search needs) (λ c κs. search needs) (λ c. search needs) (λ c κs. search needs) (λ c. search needs) returns
     returns-2)

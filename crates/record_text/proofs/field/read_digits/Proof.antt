@@ -64,21 +64,5 @@ returns-4 c = sym (more-nil _ _ _ _ (past _ _ (c .loop-test .left))) ∙ c .befo
 
 pub read-digits-spec : {M : Type 1} → statement M
 read-digits-spec =
-    tie.close
-    (tie.spec
-    Inv-loop
-    μ-loop
-    loop-holds
-    (λ c. search needs)
-    (λ c. search needs)
-    returns
-    returns-2
-    (λ c κs. tt)
-    returns-3
-    mul-value
-    add-value
-    (λ c. search needs)
-    (λ c. search needs)
-    (λ c. search needs)
-    loop-again
-    returns-4)
+    tie.close (tie.spec Inv-loop μ-loop loop-holds (λ c. search needs) (λ c. search needs) returns returns-2 (λ c κs. tt) returns-3
+    mul-value add-value (λ c. search needs) (λ c. search needs) (λ c. search needs) loop-again returns-4)

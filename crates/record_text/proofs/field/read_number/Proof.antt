@@ -34,13 +34,4 @@ returns-3 c =
 
 pub read-number-spec : {M : Type 1} → statement M
 read-number-spec =
-    tie.close
-    (tie.spec
-    returns
-    (λ c. search needs)
-    (λ c κs. tt)
-    returns-2
-    (λ c. search needs)
-    (λ c κs. tt)
-    read-digits-requires
-    returns-3)
+    tie.close (tie.spec returns (λ c. search needs) (λ c κs. tt) returns-2 (λ c. search needs) (λ c κs. tt) read-digits-requires returns-3)

@@ -64,22 +64,6 @@ returns-6 c =
 
 pub read-signed-spec : {M : Type 1} → statement M
 read-signed-spec =
-    tie.close
-    (tie.spec
-    returns
-    (λ c. search needs)
-    (λ c κs. tt)
-    (λ c. search needs)
-    (λ c κs. tt)
-    (λ c. search needs)
-    returns-2
-    negative-requires
-    (λ c. search needs)
-    (λ c κs. tt)
-    (λ c. search needs)
-    positive-requires
-    (λ c. search needs)
-    returns-3
-    returns-4
-    returns-5
-    returns-6)
+    tie.close (tie.spec returns (λ c. search needs) (λ c κs. tt) (λ c. search needs) (λ c κs. tt) (λ c. search needs) returns-2
+    negative-requires (λ c. search needs) (λ c κs. tt) (λ c. search needs) positive-requires (λ c. search needs) returns-3 returns-4
+    returns-5 returns-6)

@@ -66,18 +66,5 @@ returns-2 c =
 
 pub read-four-spec : {M : Type 1} → statement M
 read-four-spec =
-    tie.close
-    (tie.spec
-    (λ c. search needs)
-    (λ c. search needs)
-    (λ c κs. search needs)
-    (λ c. search needs)
-    (λ c. search needs)
-    returns
-    (λ c. search needs)
-    unsigned-requires
-    (λ c. search needs)
-    unsigned-requires-2
-    (λ c. search needs)
-    (λ c. search needs)
-    returns-2)
+    tie.close (tie.spec (λ c. search needs) (λ c. search needs) (λ c κs. search needs) (λ c. search needs) (λ c. search needs) returns
+    (λ c. search needs) unsigned-requires (λ c. search needs) unsigned-requires-2 (λ c. search needs) (λ c. search needs) returns-2)

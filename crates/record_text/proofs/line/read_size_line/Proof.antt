@@ -33,12 +33,4 @@ returns-2 c =
 
 pub read-size-line-spec : {M : Type 1} → statement M
 read-size-line-spec =
-    tie.close
-    (tie.spec
-    (λ c κs. tt)
-    (λ c. search needs)
-    (λ c. search needs)
-    returns
-    unsigned-requires
-    unsigned-requires-2
-    returns-2)
+    tie.close (tie.spec (λ c κs. tt) (λ c. search needs) (λ c. search needs) returns unsigned-requires unsigned-requires-2 returns-2)

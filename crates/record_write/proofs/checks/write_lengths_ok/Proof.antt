@@ -37,5 +37,4 @@ returns-3 c =
 
 pub write-lengths-ok-spec : {M : Type 1} → statement M
 write-lengths-ok-spec =
-    tie.close
-    (tie.spec (λ c. search needs) (λ c κs. tt) (λ c κs. tt) returns (λ c κs. tt) returns-2 (λ c κs. tt) returns-3)
+    tie.close (tie.spec (λ c. search needs) (λ c κs. tt) (λ c κs. tt) returns (λ c κs. tt) returns-2 (λ c κs. tt) returns-3)

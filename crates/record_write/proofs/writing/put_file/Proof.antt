@@ -61,12 +61,5 @@ returns c =
 
 pub put-file-spec : {M : Type 1} → statement M
 put-file-spec =
-    tie.close
-    (tie.spec
-    (λ c. search needs)
-    (λ c κs. search needs)
-    put-values-requires
-    (λ c κs. search needs)
-    put-records-requires
-    (λ c. search needs)
-    returns)
+    tie.close (tie.spec (λ c. search needs) (λ c κs. search needs) put-values-requires (λ c κs. search needs) put-records-requires
+    (λ c. search needs) returns)

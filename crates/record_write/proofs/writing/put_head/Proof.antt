@@ -14,11 +14,4 @@ returns c =
     head-written (s .args .sheet) (s .args .values) (s .pre .0) (record { at = 0 }) (t .result) (z .result) (d .result) refl (s .pre .1) (t .ensures) (z .ensures) (d .ensures)
 
 pub put-head-spec : {M : Type 1} → statement M
-put-head-spec =
-    tie.close
-    (tie.spec
-    (λ c κs. search needs)
-    (λ c κs. search needs)
-    (λ c κs. search needs)
-    (λ c. search needs)
-    returns)
+put-head-spec = tie.close (tie.spec (λ c κs. search needs) (λ c κs. search needs) (λ c κs. search needs) (λ c. search needs) returns)

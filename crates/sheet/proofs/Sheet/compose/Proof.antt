@@ -97,15 +97,5 @@ returns-2 c =
 
 pub compose-spec : {M : Type 1} → statement M
 compose-spec =
-    tie.close
-    (tie.spec
-    (λ c κs. tt)
-    (λ c κs. tt)
-    (λ c κs. tt)
-    (λ c κs. tt)
-    (λ c κs. tt)
-    returns
-    compose-missing-requires
-    (λ c. search needs)
-    (λ c. search needs)
-    returns-2)
+    tie.close (tie.spec (λ c κs. tt) (λ c κs. tt) (λ c κs. tt) (λ c κs. tt) (λ c κs. tt) returns compose-missing-requires
+    (λ c. search needs) (λ c. search needs) returns-2)

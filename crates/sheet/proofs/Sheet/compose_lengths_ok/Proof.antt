@@ -34,5 +34,4 @@ returns-3 c =
     rw (e, eq-eqb _ _ (c .before .if2 .left ∙ w), c .blocks2 .ensures)
 
 pub compose-lengths-ok-spec : {M : Type 1} → statement M
-compose-lengths-ok-spec =
-    tie.close (tie.spec (λ c κs. search needs) returns returns-2 (λ c κs. tt) returns-3)
+compose-lengths-ok-spec = tie.close (tie.spec (λ c κs. search needs) returns returns-2 (λ c κs. tt) returns-3)

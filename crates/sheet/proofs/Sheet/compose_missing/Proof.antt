@@ -156,28 +156,6 @@ returns-2 c =
 
 pub compose-missing-spec : {M : Type 1} → statement M
 compose-missing-spec =
-    tie.close
-    (tie.spec
-    Inv-loop
-    μ-loop
-    (λ c. search needs)
-    (λ c κs. tt)
-    loop-holds
-    compose-next-requires
-    (λ c. search needs)
-    add-self
-    (λ c κs. tt)
-    sub-t21
-    mul-t22
-    slice-set-from-records
-    (λ c. search needs)
-    same-length
-    same-length-2
-    returns
-    add-block
-    (λ c. search needs)
-    loop-again
-    sub-t24
-    same-length-3
-    same-length-4
-    returns-2)
+    tie.close (tie.spec Inv-loop μ-loop (λ c. search needs) (λ c κs. tt) loop-holds compose-next-requires (λ c. search needs) add-self
+    (λ c κs. tt) sub-t21 mul-t22 slice-set-from-records (λ c. search needs) same-length same-length-2 returns add-block (λ c. search needs)
+    loop-again sub-t24 same-length-3 same-length-4 returns-2)

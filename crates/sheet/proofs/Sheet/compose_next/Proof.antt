@@ -116,24 +116,6 @@ returns c =
 
 pub compose-next-spec : {M : Type 1} → statement M
 compose-next-spec =
-    tie.close
-    (tie.spec
-    (λ c. search needs)
-    (λ c. search needs)
-    next-x-requires
-    next-y-requires
-    neighbours-of-requires
-    cut-at-requires
-    light-at-requires
-    mul-border
-    mul-block
-    (λ c κs. tt)
-    array-share-prefix-near
-    slice-aggregate-choose-at
-    array-share-prefix-own
-    slice-aggregate-choose-at-2
-    array-share-prefix-light
-    slice-aggregate-choose-at-3
-    choose-at-requires
-    (λ c. search needs)
-    returns)
+    tie.close (tie.spec (λ c. search needs) (λ c. search needs) next-x-requires next-y-requires neighbours-of-requires cut-at-requires
+    light-at-requires mul-border mul-block (λ c κs. tt) array-share-prefix-near slice-aggregate-choose-at array-share-prefix-own
+    slice-aggregate-choose-at-2 array-share-prefix-light slice-aggregate-choose-at-3 choose-at-requires (λ c. search needs) returns)

@@ -104,21 +104,6 @@ returns c =
 
 pub draw-next-spec : {M : Type 1} → statement M
 draw-next-spec =
-    tie.close
-    (tie.spec
-    (λ c. search needs)
-    (λ c. search needs)
-    next-x-requires
-    next-y-requires
-    neighbours-of-requires
-    light-at-requires
-    mul-border
-    mul-lent-part
-    (λ c κs. tt)
-    array-share-prefix-near
-    slice-aggregate-draw
-    array-share-prefix-light
-    slice-aggregate-draw-2
-    draw-requires
-    (λ c. search needs)
-    returns)
+    tie.close (tie.spec (λ c. search needs) (λ c. search needs) next-x-requires next-y-requires neighbours-of-requires light-at-requires
+    mul-border mul-lent-part (λ c κs. tt) array-share-prefix-near slice-aggregate-draw array-share-prefix-light slice-aggregate-draw-2
+    draw-requires (λ c. search needs) returns)

@@ -74,15 +74,5 @@ returns-3 c =
 
 pub place-spec : {M : Type 1} → statement M
 place-spec =
-    tie.close
-    (tie.spec
-    (λ c κs. tt)
-    (λ c κs. search needs)
-    (λ c κs. tt)
-    returns
-    draw-next-requires
-    (λ c. search needs)
-    returns-2
-    add-self
-    (λ c. search needs)
-    returns-3)
+    tie.close (tie.spec (λ c κs. tt) (λ c κs. search needs) (λ c κs. tt) returns draw-next-requires (λ c. search needs) returns-2 add-self
+    (λ c. search needs) returns-3)

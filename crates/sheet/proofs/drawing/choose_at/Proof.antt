@@ -32,12 +32,4 @@ returns-2 c =
 
 pub choose-at-spec : {M : Type 1} → statement M
 choose-at-spec =
-    tie.close
-    (tie.spec
-    (λ c κs. tt)
-    (λ c. search needs)
-    draw-requires
-    (λ c. search needs)
-    (λ c. search needs)
-    returns
-    returns-2)
+    tie.close (tie.spec (λ c κs. tt) (λ c. search needs) draw-requires (λ c. search needs) (λ c. search needs) returns returns-2)

@@ -20,6 +20,4 @@ returns-2 c =
     (sym (ap contourTold (c .before .enum-told .given .1)) ∙ c .before .before .before .contour .ensures ∙ contour-given (d .args .n) (d .args .light .now) (d .pre .0) (d .pre .1))
 
 pub contour-of-spec : {M : Type 1} → statement M
-contour-of-spec =
-    tie.close
-    (tie.spec (λ c κs. tt) (λ c. search needs) (λ c. search needs) (λ c κs. tt) returns returns-2)
+contour-of-spec = tie.close (tie.spec (λ c κs. tt) (λ c. search needs) (λ c. search needs) (λ c κs. tt) returns returns-2)

@@ -91,19 +91,6 @@ returns-3 c =
 
 pub draw-spec : {M : Type 1} → statement M
 draw-spec =
-    tie.close
-    (tie.spec
-    (λ c κs. tt)
-    (λ c. search needs)
-    draw-pattern-requires
-    (λ c. search needs)
-    contour-of-requires
-    draw-pattern-requires-2
-    (λ c. search needs)
-    (λ c κs. tt)
-    (λ c κs. tt)
-    (λ c. search needs)
-    returns
-    (λ c. search needs)
-    returns-2
+    tie.close (tie.spec (λ c κs. tt) (λ c. search needs) draw-pattern-requires (λ c. search needs) contour-of-requires
+    draw-pattern-requires-2 (λ c. search needs) (λ c κs. tt) (λ c κs. tt) (λ c. search needs) returns (λ c. search needs) returns-2
     returns-3)

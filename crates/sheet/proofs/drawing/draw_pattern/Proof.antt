@@ -61,15 +61,5 @@ returns-2 c =
 
 pub draw-pattern-spec : {M : Type 1} → statement M
 draw-pattern-spec =
-    tie.close
-    (tie.spec
-    mul-count
-    array-borrow-prefix-block
-    slice-aggregate-predict
-    (λ c κs. tt)
-    (λ c. search needs)
-    write-at-requires
-    (λ c. search needs)
-    (λ c. search needs)
-    returns
-    returns-2)
+    tie.close (tie.spec mul-count array-borrow-prefix-block slice-aggregate-predict (λ c κs. tt) (λ c. search needs) write-at-requires
+    (λ c. search needs) (λ c. search needs) returns returns-2)

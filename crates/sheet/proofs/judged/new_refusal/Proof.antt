@@ -26,5 +26,4 @@ unfolding newRefusal
 returns-2 c = rw (good (c .before .before)) (checked 8 (c .check .ensures) (c .before .sides-ok .ensures) refl)
 
 pub new-refusal-spec : {M : Type 1} → statement M
-new-refusal-spec =
-    tie.close (tie.spec (λ c κs. tt) returns sides-ok-requires (λ c κs. tt) returns-2)
+new-refusal-spec = tie.close (tie.spec (λ c κs. tt) returns sides-ok-requires (λ c κs. tt) returns-2)

@@ -16,5 +16,4 @@ returns c =
     (checked 20 (c .before .check .ensures) (ap (ltb (a .placed)) (c .before .before .blocks2 .ensures)) refl)
 
 pub open-refusal-spec : {M : Type 1} → statement M
-open-refusal-spec =
-    tie.close (tie.spec (λ c κs. tt) (λ c κs. tt) (λ c κs. tt) returns)
+open-refusal-spec = tie.close (tie.spec (λ c κs. tt) (λ c κs. tt) (λ c κs. tt) returns)

@@ -32,13 +32,4 @@ returns-2 c =
 
 pub state-refusal-spec : {M : Type 1} → statement M
 state-refusal-spec =
-    tie.close
-    (tie.spec
-    (λ c κs. tt)
-    returns
-    (λ c κs. tt)
-    (λ c κs. tt)
-    sides-ok-requires
-    (λ c κs. tt)
-    (λ c κs. tt)
-    returns-2)
+    tie.close (tie.spec (λ c κs. tt) returns (λ c κs. tt) (λ c κs. tt) sides-ok-requires (λ c κs. tt) (λ c κs. tt) returns-2)

@@ -36,5 +36,4 @@ returns-2 c =
     found
 
 pub lengths-ok-spec : {M : Type 1} → statement M
-lengths-ok-spec =
-    tie.close (tie.spec mul-area returns (λ c κs. tt) returns-2 (λ c κs. tt) returns-3)
+lengths-ok-spec = tie.close (tie.spec mul-area returns (λ c κs. tt) returns-2 (λ c κs. tt) returns-3)

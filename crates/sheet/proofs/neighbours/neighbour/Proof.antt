@@ -17,4 +17,5 @@ returns-2 : tie.Need-returns-2
 returns-2 c = rw (le-ltb _ _ (c .before .if1 .left)) (c .run-at2 .ensures)
 
 pub neighbour-spec : {M : Type 1} → statement M
-neighbour-spec = tie.close (tie.spec (λ c. search needs) run-at-requires (λ c. search needs) (λ c. search needs) run-at-requires-2 returns returns-2)
+neighbour-spec =
+    tie.close (tie.spec (λ c. search needs) run-at-requires (λ c. search needs) (λ c. search needs) run-at-requires-2 returns returns-2)

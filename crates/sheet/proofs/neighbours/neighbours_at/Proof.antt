@@ -43,15 +43,5 @@ returns c =
 
 pub neighbours-at-spec : {M : Type 1} → statement M
 neighbours-at-spec =
-    tie.close
-    (tie.spec
-    Inv-loop
-    μ-loop
-    (λ c. search needs)
-    loop-holds
-    neighbour-requires
-    array-write-near
-    add-i
-    loop-less
-    loop-again
+    tie.close (tie.spec Inv-loop μ-loop (λ c. search needs) loop-holds neighbour-requires array-write-near add-i loop-less loop-again
     returns)

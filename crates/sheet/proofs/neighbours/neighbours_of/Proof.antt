@@ -34,4 +34,5 @@ returns c =
     rw (counted-places (d .pre) (d .args .samples .now)) (filled-by greatestNeighbours (4 * d .args .n) (4 * d .args .n) _ e refl)
 
 pub neighbours-of-spec : {M : Type 1} → statement M
-neighbours-of-spec = tie.close (tie.spec (λ c κs. tt) (λ c κs. search needs) left-first-requires top-first-requires neighbours-at-requires returns)
+neighbours-of-spec =
+    tie.close (tie.spec (λ c κs. tt) (λ c κs. search needs) left-first-requires top-first-requires neighbours-at-requires returns)

@@ -39,4 +39,6 @@ returns-3 c =
     rw (le-ltb 0 (a .count) (c .before .if1 .left), le-ltb 0 (a .others) (c .if2 .left))
 
 pub run-at-spec : {M : Type 1} → statement M
-run-at-spec = tie.close (tie.spec (λ c. search needs) (λ c κs. tt) mul-result add-result shared-slice-read-result returns shared-slice-read-result-2 returns-2 returns-3)
+run-at-spec =
+    tie.close (tie.spec (λ c. search needs) (λ c κs. tt) mul-result add-result shared-slice-read-result returns shared-slice-read-result-2
+    returns-2 returns-3)

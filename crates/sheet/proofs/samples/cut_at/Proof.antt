@@ -83,21 +83,5 @@ returns c = filled-by greatestSamples _ _ _ (c .before .loop .inv .2) (omega ari
 
 pub cut-at-spec : {M : Type 1} → statement M
 cut-at-spec =
-    tie.close
-    (tie.spec
-    Inv-loop
-    μ-loop
-    mul-k-end
-    loop-holds
-    div-block
-    add-block
-    mul-block
-    rem-block
-    add-block-2
-    add-block-3
-    shared-slice-read-block
-    array-write-block
-    add-k
-    loop-less
-    loop-again
-    returns)
+    tie.close (tie.spec Inv-loop μ-loop mul-k-end loop-holds div-block add-block mul-block rem-block add-block-2 add-block-3
+    shared-slice-read-block array-write-block add-k loop-less loop-again returns)

@@ -95,22 +95,5 @@ returns c =
 
 pub write-at-spec : {M : Type 1} → statement M
 write-at-spec =
-    tie.close
-    (tie.spec
-    Inv-loop
-    μ-loop
-    mul-k-end
-    loop-holds
-    element-copy-out-samples
-    div-samples
-    add-samples
-    mul-samples
-    rem-samples
-    add-samples-2
-    add-samples-3
-    slice-write-samples
-    add-k
-    loop-less
-    loop-again
-    same-length
-    returns)
+    tie.close (tie.spec Inv-loop μ-loop mul-k-end loop-holds element-copy-out-samples div-samples add-samples mul-samples rem-samples
+    add-samples-2 add-samples-3 slice-write-samples add-k loop-less loop-again same-length returns)

@@ -59,20 +59,5 @@ returns c =
 
 pub put-rows-spec : {M : Type 1} → statement M
 put-rows-spec =
-    tie.close
-    (tie.spec
-    Inv-loop
-    μ-loop
-    (λ c. search needs)
-    loop-holds
-    (λ c. search needs)
-    (λ c κs. search needs)
-    (λ c. search needs)
-    rem-end-byte
-    (λ c κs. tt)
-    (λ c κs. search needs)
-    (λ c. search needs)
-    (λ c. search needs)
-    loop-again
-    (λ c. search needs)
-    returns)
+    tie.close (tie.spec Inv-loop μ-loop (λ c. search needs) loop-holds (λ c. search needs) (λ c κs. search needs) (λ c. search needs)
+    rem-end-byte (λ c κs. tt) (λ c κs. search needs) (λ c. search needs) (λ c. search needs) loop-again (λ c. search needs) returns)

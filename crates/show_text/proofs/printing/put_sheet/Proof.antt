@@ -18,10 +18,4 @@ returns c =
     sheet-written _ _ _ (q .before .before .before .before .put-sides .ensures) (q .put-rows .ensures)
 
 pub put-sheet-spec : {M : Type 1} → statement M
-put-sheet-spec =
-    tie.close
-    (tie.spec
-    (λ c κs. search needs)
-    put-rows-requires
-    (λ c. search needs)
-    returns)
+put-sheet-spec = tie.close (tie.spec (λ c κs. search needs) put-rows-requires (λ c. search needs) returns)

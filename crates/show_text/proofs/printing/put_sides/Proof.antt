@@ -25,11 +25,4 @@ returns c =
 
 pub put-sides-spec : {M : Type 1} → statement M
 put-sides-spec =
-    tie.close
-    (tie.spec
-    (λ c. search needs)
-    (λ c κs. search needs)
-    put-pair-requires
-    (λ c κs. search needs)
-    (λ c. search needs)
-    returns)
+    tie.close (tie.spec (λ c. search needs) (λ c κs. search needs) put-pair-requires (λ c κs. search needs) (λ c. search needs) returns)

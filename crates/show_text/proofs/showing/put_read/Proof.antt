@@ -62,14 +62,5 @@ returns-2 c =
 
 pub put-read-spec : {M : Type 1} → statement M
 put-read-spec =
-    tie.close
-    (tie.spec
-    (λ c. search needs)
-    (λ c κs. search needs)
-    put-refusal-requires
-    (λ c. search needs)
-    returns
-    (λ c. search needs)
-    put-sheet-requires
-    (λ c. search needs)
-    returns-2)
+    tie.close (tie.spec (λ c. search needs) (λ c κs. search needs) put-refusal-requires (λ c. search needs) returns (λ c. search needs)
+    put-sheet-requires (λ c. search needs) returns-2)

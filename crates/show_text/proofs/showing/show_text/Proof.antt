@@ -43,17 +43,5 @@ returns-2 c =
 
 pub show-text-spec : {M : Type 1} → statement M
 show-text-spec =
-    tie.close
-    (tie.spec
-    returns
-    (λ c κs. search needs)
-    (λ c. search needs)
-    (λ c. search needs)
-    (λ c κs. search needs)
-    (λ c κs. tt)
-    mul-words
-    array-share-prefix-list
-    slice-aggregate-put-read
-    (λ c κs. search needs)
-    (λ c. search needs)
-    returns-2)
+    tie.close (tie.spec returns (λ c κs. search needs) (λ c. search needs) (λ c. search needs) (λ c κs. search needs) (λ c κs. tt) mul-words
+    array-share-prefix-list slice-aggregate-put-read (λ c κs. search needs) (λ c. search needs) returns-2)

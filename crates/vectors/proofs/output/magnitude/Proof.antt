@@ -23,5 +23,4 @@ cast-result-2 : tie.Need-cast-result-2
 cast-result-2 c = let f = c .before .fits .z in plus-cast (toZ-ofZ w32 _ f) f (c .if1 .left)
 
 pub magnitude-spec : {M : Type 1} → statement M
-magnitude-spec =
-    tie.close (tie.spec sub-result cast-result add-result (λ c. search needs) cast-result-2 (λ c. search needs))
+magnitude-spec = tie.close (tie.spec sub-result cast-result add-result (λ c. search needs) cast-result-2 (λ c. search needs))

@@ -49,12 +49,5 @@ returns c =
 
 pub candidate-of-spec : {M : Type 1} → statement M
 candidate-of-spec =
-    tie.close
-    (tie.spec
-    point-x-requires
-    point-y-requires
-    point-x-requires-2
-    point-y-requires-2
-    half-of-requires
-    (λ c κs. search needs)
+    tie.close (tie.spec point-x-requires point-y-requires point-x-requires-2 point-y-requires-2 half-of-requires (λ c κs. search needs)
     returns)

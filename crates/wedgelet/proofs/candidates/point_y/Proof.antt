@@ -22,16 +22,5 @@ returns-5 c = rw (le-ltb _ _ (c .before .before .before .if1 .left), le-ltb _ _ 
 
 pub point-y-spec : {M : Type 1} → statement M
 point-y-spec =
-    tie.close
-    (tie.spec
-    (λ c. search needs)
-    returns
-    (λ c. search needs)
-    returns-2
-    (λ c. search needs)
-    returns-3
-    (λ c. search needs)
-    (λ c. search needs)
-    (λ c. search needs)
-    returns-4
-    returns-5)
+    tie.close (tie.spec (λ c. search needs) returns (λ c. search needs) returns-2 (λ c. search needs) returns-3 (λ c. search needs)
+    (λ c. search needs) (λ c. search needs) returns-4 returns-5)

@@ -37,12 +37,4 @@ returns-2 c =
     c .four-is-at .ensures ∙ ap (λ (x : ℕ). eqb x (patternNumber (a .p))) (sym (at-wide (a .n) (a .list .now) (a .entry) (e .if1 .left)))
 
 pub is-at-spec : {M : Type 1} → statement M
-is-at-spec =
-    tie.close
-    (tie.spec
-    mul-result
-    shared-slice-read-result
-    returns
-    mul-four-is-at
-    four-is-at-requires
-    returns-2)
+is-at-spec = tie.close (tie.spec mul-result shared-slice-read-result returns mul-four-is-at four-is-at-requires returns-2)

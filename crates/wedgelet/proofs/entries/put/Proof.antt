@@ -48,13 +48,4 @@ returns-2 c =
 
 pub put-spec : {M : Type 1} → statement M
 put-spec =
-    tie.close
-    (tie.spec
-    mul-list
-    slice-write-list
-    (λ c. search needs)
-    returns
-    mul-put-four
-    put-four-requires
-    (λ c. search needs)
-    returns-2)
+    tie.close (tie.spec mul-list slice-write-list (λ c. search needs) returns mul-put-four put-four-requires (λ c. search needs) returns-2)

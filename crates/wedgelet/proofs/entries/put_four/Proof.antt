@@ -20,18 +20,6 @@ returns c = simp towards-suc
 
 pub put-four-spec : {M : Type 1} → statement M
 put-four-spec =
-    tie.close
-    (tie.spec
-    (λ c. search needs)
-    (λ c. search needs)
-    (λ c. search needs)
-    (λ c. search needs)
-    slice-write-list-2
-    (λ c. search needs)
-    (λ c. search needs)
-    slice-write-list-3
-    (λ c. search needs)
-    (λ c. search needs)
-    slice-write-list-4
-    (λ c. search needs)
-    returns)
+    tie.close (tie.spec (λ c. search needs) (λ c. search needs) (λ c. search needs) (λ c. search needs) slice-write-list-2
+    (λ c. search needs) (λ c. search needs) slice-write-list-3 (λ c. search needs) (λ c. search needs) slice-write-list-4
+    (λ c. search needs) returns)

@@ -40,13 +40,5 @@ returns-2 c =
 
 pub pattern-of-spec : {M : Type 1} → statement M
 pattern-of-spec =
-    tie.close
-    (tie.spec
-    rows-requires
-    (λ c κs. search needs)
-    returns
-    rows-requires-2
-    rows-requires-3
-    rows-requires-4
-    rows-requires-5
+    tie.close (tie.spec rows-requires (λ c κs. search needs) returns rows-requires-2 rows-requires-3 rows-requires-4 rows-requires-5
     returns-2)

@@ -126,22 +126,5 @@ returns c =
 
 pub rows-spec : {M : Type 1} → statement M
 rows-spec =
-    tie.close
-    (tie.spec
-    Inv-loop
-    μ-loop
-    mul-low
-    add-low
-    mul-high
-    add-high
-    loop-holds
-    row-requires
-    mul-w
-    shl-w
-    add-w
-    add-low-2
-    add-high-2
-    add-k
-    loop-less
-    loop-again
-    returns)
+    tie.close (tie.spec Inv-loop μ-loop mul-low add-low mul-high add-high loop-holds row-requires mul-w shl-w add-w add-low-2 add-high-2
+    add-k loop-less loop-again returns)

@@ -250,54 +250,8 @@ returns c =
 
 pub fill-spec : {M : Type 1} → statement M
 fill-spec =
-    tie.close
-    (tie.spec
-    Inv-loop2
-    μ-loop2
-    Inv-next
-    μ-next
-    Inv-loop
-    μ-loop
-    (λ c. search needs)
-    mul-last
-    loop-holds
-    next-holds
-    add-e
-    (λ c. search needs)
-    next-again
-    candidate-of-requires
-    (λ c κs. tt)
-    cast-m
-    add-e-2
-    (λ c. search needs)
-    next-again-2
-    mul-k
-    array-read-k
-    loop2-holds
-    (λ c. search needs)
-    is-at-requires
-    add-e-3
-    (λ c. search needs)
-    next-again-3
-    (λ c. search needs)
-    mul-k-2
-    array-read-k-2
-    loop2-less
-    loop2-again
-    put-requires
-    mul-earlier
-    array-read-earlier
-    mul-earlier-2
-    array-write-earlier
-    add-latest
-    mul-latest
-    array-write-latest
-    add-count
-    add-e-4
-    (λ c. search needs)
-    next-again-4
-    add-s
-    (λ c. search needs)
-    loop-again
-    same-length
-    returns)
+    tie.close (tie.spec Inv-loop2 μ-loop2 Inv-next μ-next Inv-loop μ-loop (λ c. search needs) mul-last loop-holds next-holds add-e
+    (λ c. search needs) next-again candidate-of-requires (λ c κs. tt) cast-m add-e-2 (λ c. search needs) next-again-2 mul-k array-read-k
+    loop2-holds (λ c. search needs) is-at-requires add-e-3 (λ c. search needs) next-again-3 (λ c. search needs) mul-k-2 array-read-k-2
+    loop2-less loop2-again put-requires mul-earlier array-read-earlier mul-earlier-2 array-write-earlier add-latest mul-latest
+    array-write-latest add-count add-e-4 (λ c. search needs) next-again-4 add-s (λ c. search needs) loop-again same-length returns)

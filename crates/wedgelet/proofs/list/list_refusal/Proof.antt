@@ -52,15 +52,5 @@ returns-3 c = rw (good (c .before .before), le-leb _ _ (rw (its (c .before)) at 
 
 pub list-refusal-spec : {M : Type 1} → statement M
 list-refusal-spec =
-    tie.close
-    (tie.spec
-    (λ c κs. search needs)
-    returns
-    sub-last
-    mul-last
-    (λ c κs. search needs)
-    sub-if2
-    mul-if2
-    mul-if2-2
-    returns-2
+    tie.close (tie.spec (λ c κs. search needs) returns sub-last mul-last (λ c κs. search needs) sub-if2 mul-if2 mul-if2-2 returns-2
     returns-3)

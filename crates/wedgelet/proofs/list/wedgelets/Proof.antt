@@ -46,5 +46,4 @@ returns-2 c =
     )
 
 pub wedgelets-spec : {M : Type 1} → statement M
-wedgelets-spec =
-    tie.close (tie.spec (λ c κs. tt) returns fill-requires (λ c. search needs) returns-2)
+wedgelets-spec = tie.close (tie.spec (λ c κs. tt) returns fill-requires (λ c. search needs) returns-2)
