@@ -3,7 +3,7 @@ ghost use mathlib.Core.Path.{_≡_};
 ghost use mathlib.Core.Bool.{true};
 ghost use Prim.Native.Nat.{_+_, _-_, _*_, _<_, _≤_, _^_};
 ghost use lib.ListN.{length};
-ghost use Rattle.depth_table.specs.Table.{tableOk};
+ghost use Rattle.depth_table.specs.Table.{tableOk, mostValues};
 ghost use Rattle.pattern.specs.Words.{patternNumber};
 ghost use Rattle.choice.specs.Layers.{Fits, Layered, Parted};
 ghost use Rattle.choice.specs.Trial.{Better, TrialOf};
@@ -50,7 +50,7 @@ fn turn(
         × (plus ≤ 1)
         × (from < to)
         × (to < length (now table))
-        × (length (now table) ≤ 256) ⌝ }
+        × (length (now table) ≤ mostValues) ⌝ }
     ensures { λ r. ⌜ Turn (now (below .entry)) (patternNumber (part .marks)) limit (now (table .entry)) plus from to r ⌝ }
 {
     let mut low = from;

@@ -11,7 +11,7 @@ use lib.ListN.{length, getD}
 use Rattle.arith.specs.Checks.{given}
 use Rattle.arith.specs.Distance.{clamped}
 use Rattle.arith.proofs.Bools.{both-of}
-use Rattle.depth_table.specs.Table.{tableOk, indexOf}
+use Rattle.depth_table.specs.Table.{tableOk, someValue, indexOf}
 use Rattle.depth_table.specs.Answer.{nearestAnswer, valueAnswer}
 use Rattle.depth_table.specs.Offset.{offsetOk, valueOf, levelOf}
 use Rattle.depth_table.proofs.TableLaws.{table-bytes}
@@ -34,19 +34,20 @@ clamped-in count i z e h = rw e (clamped-lt count i z (ltb-true 0 count h))
 pub value-at : (t : List ℕ) (i : ℕ) {k : ℕ} {b : ℤ} (off : ℤ) → k ≡ clamped (length t) i b → b ≡ off → getD t k 0 ≡ valueOf t i off
 value-at t i off e o = ap (λ (x : ℕ). getD t x 0) (e ∙ ap (clamped (length t) i) o)
 
--- ---- of a sound table nothing is refused
+-- ---- where there is a value nothing is refused
 
-table-some : (t : List ℕ) → tableOk t ≡ true → ltb 0 (length t) ≡ true
+-- a sound table has one
+pub table-some : (t : List ℕ) → tableOk t ≡ true → someValue t ≡ true
 unfolding tableOk
 table-some t ok = lt-ltb 0 (length t) (leb-true 1 (length t) (both-of (leb 1 (length t)) _ ok .0))
 
-pub nearest-given : (t : List ℕ) (d : ℕ) → tableOk t ≡ true → nearestAnswer t d ≡ given (indexOf t d)
+pub nearest-given : (t : List ℕ) (d : ℕ) → someValue t ≡ true → nearestAnswer t d ≡ given (indexOf t d)
 unfolding nearestAnswer
-nearest-given t d ok = rw (table-some t ok)
+nearest-given t d some = rw some
 
-pub value-given : (t : List ℕ) (i : ℕ) (off : ℤ) → tableOk t ≡ true → offsetOk off ≡ true → valueAnswer t i off ≡ given (valueOf t i off)
+pub value-given : (t : List ℕ) (i : ℕ) (off : ℤ) → someValue t ≡ true → offsetOk off ≡ true → valueAnswer t i off ≡ given (valueOf t i off)
 unfolding valueAnswer
-value-given t i off ok o = rw (table-some t ok, o)
+value-given t i off some o = rw (some, o)
 
 -- the two steps to a level
 pub level-found : (t : List ℕ) (d : ℕ) {i v : ℕ} (off : ℤ) → i ≡ indexOf t d → v ≡ valueOf t i off → v ≡ levelOf t d off

@@ -1,11 +1,9 @@
 -- What the calls on a depth table answer.
 use Prim.Native.Nat.{ℕ}
 use mathlib.Core.List.{List, [], _∷_}
-use lib.Dec.{ltb}
 use lib.IntN.{ℤ}
-use lib.ListN.{length}
 use Rattle.arith.specs.Checks.{refusal, Answer, refused, given, answer}
-use Rattle.depth_table.specs.Table.{tableOk, indexOf}
+use Rattle.depth_table.specs.Table.{tableOk, someValue, indexOf}
 use Rattle.depth_table.specs.Offset.{offsetOk, valueOf}
 use Rattle.depth_table.specs.declared.Indexed.{Indexed}
 use Rattle.depth_table.specs.declared.Indexed.the-variants as indexed
@@ -22,11 +20,11 @@ indexAnswer t d = answer (indexRefusal t) (indexOf t d)
 
 -- `nearest_index` answers the same of any values; 3: there is none
 unfoldable pub nearestAnswer : List ℕ → ℕ → Answer ℕ
-nearestAnswer t d = answer (refusal ((ltb 0 (length t), 3) ∷ []) 0) (indexOf t d)
+nearestAnswer t d = answer (refusal ((someValue t, 3) ∷ []) 0) (indexOf t d)
 
 -- `value_at` answers the value at an index plus an offset; 3: there is no value; 4: the offset
 unfoldable pub valueAnswer : List ℕ → ℕ → ℤ → Answer ℕ
-valueAnswer t i off = answer (refusal ((ltb 0 (length t), 3) ∷ (offsetOk off, 4) ∷ []) 0) (valueOf t i off)
+valueAnswer t i off = answer (refusal ((someValue t, 3) ∷ (offsetOk off, 4) ∷ []) 0) (valueOf t i off)
 
 -- document 01's number or value for each case of the code's answer
 abbrev pub indexTold : Indexed → Answer ℕ

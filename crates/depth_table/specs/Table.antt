@@ -24,6 +24,10 @@ mostValues = 256
 unfoldable pub tableOk : List ℕ → Bool
 tableOk t = leb 1 (length t) && (leb (length t) mostValues && (bytes t && rising 0 t))
 
+-- whether there is a value at all
+abbrev pub someValue : List ℕ → Bool
+someValue t = ltb 0 (length t)
+
 -- of the values at 0 .. k, the index of the one nearest to d; of two equally near, the later
 unfoldable pub nearestTo : List ℕ → ℕ → ℕ → ℕ
 nearestTo t d zero = zero

@@ -15,7 +15,7 @@ use Rattle.pattern.specs.Size.{wordOk}
 use Rattle.pattern.specs.Answer.{samplesRefusal, contourAnswer}
 use Rattle.pattern.specs.Contour.{contourOf}
 use Rattle.depth_table.specs.Offset.{offsetOk}
-use Rattle.prediction.specs.Answer.{lengthsOk, predictRefusal, predictBlock}
+use Rattle.prediction.specs.Answer.{lengthsOk, predictRefusalBy, predictRefusal, predictBlockBy, predictBlock}
 use Rattle.choice.specs.Offset.{InReach}
 use Rattle.choice.specs.Case.{Case}
 use Rattle.choice.specs.Record.{Within, patternBy, patternOf, predictionOf}
@@ -50,7 +50,7 @@ module _ (C : Case) (k : Accepted C) (r : Record) (h : Within C r) where
   refusal samples = predictRefusal (C .n) (patternOf C r) (length (C .neighbours)) (C .table) (r .off0) (r .off1) samples
 
   predict-passes : (samples : ℕ) → samples ≡ C .n * C .n → refusal samples ≡ 0
-  unfolding predictRefusal lengthsOk
+  unfolding predictRefusalBy lengthsOk
   predict-passes samples e =
       rw (
         k .size,
@@ -65,5 +65,5 @@ module _ (C : Case) (k : Accepted C) (r : Record) (h : Within C r) where
   pub predict-writes :
       (block : List ℕ) → length block ≡ C .n * C .n
       → predictBlock (C .n) (patternOf C r) (C .neighbours) (C .table) (r .off0) (r .off1) block ≡ predictionOf C r
-  unfolding predictBlock
+  unfolding predictBlockBy
   predict-writes block e = sym (lent-given (refusal (length block)) (predictionOf C r) block (predict-passes (length block) e))

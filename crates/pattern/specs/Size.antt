@@ -1,4 +1,5 @@
--- The allowed block sizes: the one place where 4, 8 and 16 are named, and what a block of the greatest size has.
+-- The allowed block sizes, and what a block of the greatest size has. Of the three lists that reading is lent, `eachSize` judges each, and
+-- `forSize` chooses one; `aidsAlone` of `show_text` names the sizes a second time. That up to n = 8 a pattern is one word is said in Words.
 use Prim.Native.Nat.{ℕ, _*_, _^_}
 use mathlib.Core.Bool.{Bool, cond, _&&_, _||_}
 use lib.Dec.{eqb, ltb}

@@ -5,12 +5,13 @@ ghost use Prim.Native.Nat.{_≤_};
 ghost use lib.ListN.{length};
 ghost use Rattle.arith.specs.Bits.{testBit};
 ghost use Rattle.arith.specs.Lists.{listOf};
-ghost use Rattle.depth_table.specs.Table.{tableOk};
+ghost use Rattle.depth_table.specs.Table.{someValue};
 ghost use Rattle.depth_table.specs.Offset.{offsetOk, levelOf};
 ghost use Rattle.prediction.specs.Block.{sampleOf};
 ghost use Rattle.pattern.specs.Size.{greatestSize};
 ghost use Rattle.pattern.specs.Words.{patternNumber, usedNumber};
-ghost use Rattle.prediction.specs.Answer.{lengthsOk, Predictable, predictRefusal, predictAnswer, predictBlock, predictTold};
+ghost use Rattle.prediction.specs.Answer.{lengthsOk, Predictable, predictRefusalBy, predictAnswerBy, predictBlockBy};
+ghost use Rattle.prediction.specs.Answer.{predictAnswer, predictBlock, valuesAnswer, valuesBlock, predictTold};
 use crate::Predicted;
 use depth_table::DepthValue;
 use depth_table::Indexed;
@@ -48,33 +49,32 @@ fn lengths_ok(n: usize, neighbours: usize, samples: usize) -> bool
     samples == n * n
 }
 
-// The number of the first check of `predict` that fails, 0 for none.
+// The number of the first check of a prediction that fails, 0 for none; `asked` is whether the table is as it has to be.
 fn predict_refusal(
+    asked: bool,
     n: usize,
     p: Pattern,
     neighbours: usize,
-    table: &[u8],
     off0: i32,
     off1: i32,
     samples: usize,
 ) -> u8
-    ensures { λ r. ⌜ r ≡ predictRefusal n (patternNumber p) neighbours (now (table .entry)) off0 off1 samples ⌝ }
+    ensures { λ r. ⌜ r ≡ predictRefusalBy asked n (patternNumber p) neighbours off0 off1 samples ⌝ }
 {
     if !pattern::size_ok(n) {
         return 1;
     }
     let lengths = lengths_ok(n, neighbours, samples);
-    let sound = depth_table::is_table(table);
     let inside = pattern::word_ok(n, p);
     let offset0 = depth_table::offset_ok(off0);
     let offset1 = depth_table::offset_ok(off1);
     let later = check(inside, 5, check(offset0, 4, check(offset1, 4, 0)));
-    check(lengths, 2, check(sound, 3, later))
+    check(lengths, 2, check(asked, 3, later))
 }
 
 // The table value at a depth's index plus an offset.
 fn level(table: &[u8], d: DepthValue, off: i32) -> u8
-    requires { ⌜ (tableOk (now table) ≡ true) × (offsetOk off ≡ true) ⌝ }
+    requires { ⌜ (someValue (now table) ≡ true) × (offsetOk off ≡ true) ⌝ }
     ensures { λ r. ⌜ r ≡ levelOf (now (table .entry)) (d .0) off ⌝ }
 {
     let nearest = depth_table::nearest_index(table, d);
@@ -99,6 +99,35 @@ fn value_of(n: usize, p: Pattern, border: &[u8], table: &[u8], m: bool, off0: i3
     level(table, d, off0)
 }
 
+// Writes the predicted block where no check fails and answers the number of marks; `asked` is whether the table is as it has to be.
+fn predict_where(
+    asked: bool,
+    n: usize,
+    p: Pattern,
+    border: &[u8],
+    table: &[u8],
+    off0: i32,
+    off1: i32,
+    block: &mut [u8],
+) -> Predicted
+    requires { ⌜ (asked ≡ true → someValue (now table) ≡ true) ⌝ }
+    ensures answered { λ r. ⌜ predictTold r
+        ≡ predictAnswerBy asked n (usedNumber n p) (now (border .entry)) off0 off1 (length (now (block .entry))) ⌝ }
+    ensures written { λ r. ⌜ now (block .exit)
+        ≡ predictBlockBy asked n (usedNumber n p) (now (border .entry)) (now (table .entry)) off0 off1 (now (block .entry)) ⌝ }
+{
+    let q = pattern::used_words(n, p);
+    let refusal = predict_refusal(asked, n, q, border.len(), off0, off1, block.len());
+    if refusal != 0 {
+        return Predicted::Refused(refusal);
+    }
+    let m = pattern::mark_at(q, 0);
+    let a = value_of(n, q, border, table, m, off0, off1);
+    let b = value_of(n, q, border, table, !m, off0, off1);
+    paint(q, pick(m, a, b), pick(m, b, a), block);
+    Predicted::Marks(pattern::marks(q))
+}
+
 // Writes the predicted block of n * n samples and answers the number of marks, or refuses with 1, 2, 3, 5 or 4 and writes nothing.
 // Up to 8 by 8 the pattern is the first word of p; the others are not read.
 pub fn predict(
@@ -115,14 +144,26 @@ pub fn predict(
     ensures written { λ r. ⌜ now (block .exit)
         ≡ predictBlock n (usedNumber n p) (now (border .entry)) (now (table .entry)) off0 off1 (now (block .entry)) ⌝ }
 {
-    let q = pattern::used_words(n, p);
-    let refusal = predict_refusal(n, q, border.len(), table, off0, off1, block.len());
-    if refusal != 0 {
-        return Predicted::Refused(refusal);
-    }
-    let m = pattern::mark_at(q, 0);
-    let a = value_of(n, q, border, table, m, off0, off1);
-    let b = value_of(n, q, border, table, !m, off0, off1);
-    paint(q, pick(m, a, b), pick(m, b, a), block);
-    Predicted::Marks(pattern::marks(q))
+    let sound = depth_table::is_table(table);
+    predict_where(sound, n, p, border, table, off0, off1, block)
+}
+
+// The same from any values, rising or not, so that many blocks can be predicted from a table that was judged once: 3 is given only where
+// there is no value.
+pub fn predict_from_values(
+    n: usize,
+    p: Pattern,
+    border: &[u8],
+    table: &[u8],
+    off0: i32,
+    off1: i32,
+    block: &mut [u8],
+) -> Predicted
+    ensures answered { λ r. ⌜ predictTold r
+        ≡ valuesAnswer n (usedNumber n p) (now (border .entry)) (now (table .entry)) off0 off1 (length (now (block .entry))) ⌝ }
+    ensures written { λ r. ⌜ now (block .exit)
+        ≡ valuesBlock n (usedNumber n p) (now (border .entry)) (now (table .entry)) off0 off1 (now (block .entry)) ⌝ }
+{
+    let some = 0 < table.len();
+    predict_where(some, n, p, border, table, off0, off1, block)
 }

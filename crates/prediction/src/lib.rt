@@ -3,10 +3,11 @@ mod block;
 mod sides;
 
 pub use block::predict;
+pub use block::predict_from_values;
 use depth_table::DepthValue;
 pub use sides::side_depths;
 
-// What `predict` answers: the number of marks, or the number of its refusal.
+// What `predict` and `predict_from_values` answer: the number of marks, or the number of the refusal.
 pub enum Predicted {
     Marks(u32),
     Refused(u8),

@@ -7,12 +7,12 @@ use native.Mathlib.Numerals.{add-one}
 use native.Mathlib.Omega.{arith}
 use lib.ListN.{length}
 use Rattle.arith.proofs.CheckLaws.{holds}
-use Rattle.depth_table.specs.Table.{bytes, rising}
+use Rattle.depth_table.specs.Table.{bytes, rising, tableOk}
 use Rattle.pattern.proofs.AnswerLaws.{texture-is}
 use Rattle.record.specs.declared.Record.{Record}
 use Rattle.sheet.specs.declared.Sheet.{Sheet}
 use Rattle.sheet.specs.State.{stateOf, after, blocksOf, lengthsOk}
-use Rattle.sheet.specs.Place.{Material, placeRefusal, placedSamples, placedInTurn}
+use Rattle.sheet.specs.Place.{Material, placeRefusalBy, placeRefusal, placedSamples, placedInTurn}
 use Rattle.sheet.specs.Compose.{missing}
 use Rattle.sheet.proofs.StateLaws.{lengths-do, open-none}
 use Rattle.sheet.proofs.TurnLaws.{open-after}
@@ -51,11 +51,11 @@ in-turn-ext S M f g s (suc k) h = rw (in-turn-ext S M f g s k (λ i l. h i (omeg
 pub place-means :
     (A : Aids) (table : List ℕ) (S : Sheet) (samples : ℕ) → Placeable S samples (materialFor A (S .n) table) → (f : Record)
     → placeRefusal S samples (materialFor A (S .n) table) f ≡ recordMeaning (S .n) A tt f
-unfolding placeRefusal
+unfolding placeRefusalBy
 place-means A table S samples p f =
     let patterns = length (A .list (S .n)) in
     let texture = length (A .texture) in
-    open-none S (lengthsOk S samples patterns (A .count (S .n)) texture) table (recordMeaning (S .n) A tt f) (p .is-open)
+    open-none S (lengthsOk S samples patterns (A .count (S .n)) texture) (tableOk table) (recordMeaning (S .n) A tt f) (p .is-open)
     (lengths-do S samples patterns (A .count (S .n)) texture (p .lengths)) (p .sound)
 
 -- also after k blocks, where one is missing

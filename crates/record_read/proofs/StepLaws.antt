@@ -1,6 +1,7 @@
 -- The lines of the records as the code reads them: a step, the loop over the blocks, and the end of the bytes.
 use Prim.Native.Nat.{ℕ, suc, _+_, _≤_, _<_}
 use mathlib.Core.Path.{_≡_, refl, sym, _∙_, ap, subst}
+use mathlib.Core.Bool.{Bool}
 use mathlib.Core.List.{List, [], _∷_, _++_, map}
 use native.Mathlib.Nat.{add-zero}
 use native.Mathlib.Omega.{arith}
@@ -10,12 +11,14 @@ use lib.Seq.{drop-cons, set-at, append-snoc, getD-at}
 use Rattle.arith.specs.Checks.{refused, given}
 use Rattle.arith.proofs.CheckLaws.{given-means, refused-means}
 use Rattle.arith.proofs.ListLaws.{length-end}
+use Rattle.depth_table.specs.Table.{someValue}
+use Rattle.depth_table.proofs.LevelLaws.{table-some}
 use Rattle.record.specs.declared.Record.{Record}
 use Rattle.record.specs.Record.{noRecord}
 use Rattle.record.specs.Lent.{fieldsOf}
 use Rattle.sheet.specs.declared.Sheet.{Sheet}
 use Rattle.sheet.specs.State.{after, blocksOf, Open}
-use Rattle.sheet.specs.Place.{Material, placeRefusal, placedSamples, placeAnswer, placeAfter, placedInTurn}
+use Rattle.sheet.specs.Place.{Material, placeRefusalBy, placedSamples, placeAnswerBy, placeAfterBy, valuesAnswer, valuesAfter, placedInTurn}
 use Rattle.sheet.specs.Compose.{missing}
 use Rattle.sheet.proofs.TurnLaws.{after-more}
 use Rattle.sheet_grid.specs.Grid.{mostBlocks}
@@ -42,8 +45,14 @@ module _
     abbrev material : Material
     material = materialFor A (r .sheet .n) table
 
-    means : (f : Record) → placeRefusal (r .sheet) (length t) material f ≡ recordMeaning (r .sheet .n) A tt f
-    means = place-means A table (r .sheet) (length t) ok
+    -- a sound table has a value, so that is all that is asked of it
+    abbrev refusal : Record → ℕ
+    refusal f = placeRefusalBy (someValue table) (r .sheet) (length t) material f
+
+    means : (f : Record) → refusal f ≡ recordMeaning (r .sheet .n) A tt f
+    means f =
+        ap (λ (b : Bool). placeRefusalBy b (r .sheet) (length t) material f) (table-some table (ok .sound) ∙ sym (ok .sound))
+        ∙ place-means A table (r .sheet) (length t) ok f
 
     -- the line has another form
     pub step-bad : {t′ : List ℕ} → recordLine (drop (r .at) s) ≡ badForm → Steps A table r s t t′ (stepped.Refused 9 (r .line))
@@ -52,22 +61,22 @@ module _
     -- it has its form, and the record is placed, or refused
     module _ {f : Record} (at : ℕ) (form : recordLine (drop (r .at) s) ≡ found f (drop at s)) where
       pub step-next :
-          {S : Sheet} {t′ : List ℕ} → given S ≡ placeAnswer (r .sheet) t material f → t′ ≡ placeAfter (r .sheet) t material f
+          {S : Sheet} {t′ : List ℕ} → given S ≡ valuesAnswer (r .sheet) t material f → t′ ≡ valuesAfter (r .sheet) t material f
           → Steps A table r s t t′ (stepped.Next f (record { at = at; line = r .line + 1; sheet = S }))
-      unfolding placeAnswer placeAfter
+      unfolding placeAnswerBy placeAfterBy
       step-next {S} a d =
-          let g = given-means (placeRefusal (r .sheet) (length t) material f) (after 1 (r .sheet)) S (sym a) in
+          let g = given-means (refusal f) (after 1 (r .sheet)) S (sym a) in
           record {
             told = sym (line-read (r .line) (recordMeaning (r .sheet .n) A tt) read form (sym (means f) ∙ g .0));
             stood = (refl, sym (g .1), rw (g .0) at d);
           }
 
       pub step-refused :
-          {n : ℕ} {t′ : List ℕ} → refused n ≡ placeAnswer (r .sheet) t material f
+          {n : ℕ} {t′ : List ℕ} → refused n ≡ valuesAnswer (r .sheet) t material f
           → Steps A table r s t t′ (stepped.Refused n (r .line))
-      unfolding placeAnswer
+      unfolding placeAnswerBy
       step-refused {n} a =
-          let g = refused-means (placeRefusal (r .sheet) (length t) material f) n (after 1 (r .sheet)) (sym a) in
+          let g = refused-means (refusal f) n (after 1 (r .sheet)) (sym a) in
           record {
             told =
                 ap (λ (k : ℕ). refusedAt k (r .line)) (g .0 ∙ means f)

@@ -47,7 +47,7 @@ fn read_block(
         return Stepped::Refused(9, r.line);
     };
     let sheet = r.sheet;
-    match sheet.place(samples, list, count, table, texture, f) {
+    match sheet.place_from_values(samples, list, count, table, texture, f) {
         Placed::Next(state) => Stepped::Next(
             f,
             Reading {

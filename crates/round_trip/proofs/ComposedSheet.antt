@@ -17,7 +17,8 @@ use Rattle.pattern.specs.Answer.{textured}
 use Rattle.record.specs.declared.Record.{Record}
 use Rattle.sheet.specs.declared.Sheet.{Sheet}
 use Rattle.sheet.specs.State.{after, blocksOf, finished, lengthsOk, Lengths}
-use Rattle.sheet.specs.Place.{Material, placeRefusal, placeAnswer, placedInTurn}
+use Rattle.depth_table.specs.Table.{tableOk}
+use Rattle.sheet.specs.Place.{Material, placeRefusalBy, placeRefusal, placeAnswerBy, placeAnswer, placedInTurn}
 use Rattle.sheet.specs.Compose.{missing, Task, composedTo, composedRecord, over, choiceRefusal, Ready, composeRefusal, composeAnswer, composeAfter, composeRecords}
 use Rattle.sheet.specs.Laws.{Composes}
 use Rattle.sheet.proofs.StateLaws.{lengths-are, Opened, opened}
@@ -38,7 +39,7 @@ use Rattle.round_trip.proofs.LengthLaws.{small-lendable}
 
 -- what `place` accepts, no check of it refuses
 accepted-means : (S : Sheet) (s : List ℕ) (M : Material) (r : Record) {u : Sheet} → placeAnswer S s M r ≡ given u → placeRefusal S (length s) M r ≡ 0
-unfolding placeAnswer
+unfolding placeAnswerBy
 accepted-means S s M r {u} e = given-means (placeRefusal S (length s) M r) (after 1 S) u e .0
 
 -- ---- what `compose` leaves
@@ -60,7 +61,7 @@ module _ (S : Sheet) (T : Task) (C : Lent) where
     ready =
         let m = length (C .records) in
         compose-ready S T (length (C .samples)) m
-        (opened S (lengthsHold S T (length (C .samples)) m) (T .material .table) (choiceRefusal S T) none .0)
+        (opened S (lengthsHold S T (length (C .samples)) m) (tableOk (T .material .table)) (choiceRefusal S T) none .0)
 
     samples-left : samplesComposed S T C ≡ composedTo S T (C .samples) (missing S)
     unfolding composeAfter
@@ -73,11 +74,11 @@ module _ (S : Sheet) (T : Task) (C : Lent) where
     record-right :
         (i : ℕ) → i < missing S
         → recordRefusal (S .n) (T .material .list) (T .material .count) (textured (T .material .texture)) (composedRecord S T (C .samples) i) ≡ 0
-    unfolding placeRefusal
+    unfolding placeRefusalBy
     record-right i h =
         let M = T .material in
         let s = composedTo S T (C .samples) i in
-        opened (after i S) (lengthsOk (after i S) (length s) (length (M .list)) (M .count) (length (M .texture))) (M .table) _
+        opened (after i S) (lengthsOk (after i S) (length s) (length (M .list)) (M .count) (length (M .texture))) (tableOk (M .table)) _
         (accepted-means (after i S) s M (composedRecord S T (C .samples) i) (whole .accepted i h)) .1
 
     abbrev new : List (List ℤ)
@@ -173,11 +174,11 @@ module _
     -- what `place` found right of the state, the lengths and the table, and of each record
     checked :
         (i : ℕ) → i < blocksOf S
-        → Opened (after i (emptied S)) (lengthsOk (after i (emptied S)) (length first) (length (M .list)) (M .count) (length (M .texture))) (M .table)
+        → Opened (after i (emptied S)) (lengthsOk (after i (emptied S)) (length first) (length (M .list)) (M .count) (length (M .texture))) (tableOk (M .table))
         × (recordRefusal (S .n) (M .list) (M .count) (textured (M .texture)) (at i) ≡ 0)
-    unfolding placeRefusal
+    unfolding placeRefusalBy
     checked i h =
-        opened (after i (emptied S)) (lengthsOk (after i (emptied S)) (length first) (length (M .list)) (M .count) (length (M .texture))) (M .table) _ (each i h)
+        opened (after i (emptied S)) (lengthsOk (after i (emptied S)) (length first) (length (M .list)) (M .count) (length (M .texture))) (tableOk (M .table)) _ (each i h)
 
     pub lengths : Lengths S (length first) (length (M .list)) (M .count) (length (M .texture))
     lengths =

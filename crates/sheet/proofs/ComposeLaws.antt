@@ -30,7 +30,7 @@ use Rattle.arith.specs.Checks.{Answer, given, refused, lent}
 use Rattle.arith.proofs.CheckLaws.{given-means, refused-means, lent-refused}
 use Rattle.choice.specs.Answer.{chooseAnswer}
 use Rattle.sheet_grid.specs.Neighbours.{neighbours}
-use Rattle.sheet.specs.Place.{nextTexture, drawRefusal, placeRefusal}
+use Rattle.sheet.specs.Place.{nextTexture, drawRefusal, placeRefusalBy, placeRefusal}
 use Rattle.sheet.specs.Compose.{Task, composeCase, chosenNext, chosenBlock, composedNext, choiceRefusal}
 use Rattle.sheet.specs.declared.Sheet.{Sheet}
 use Rattle.sheet.proofs.StateLaws.{lengths-do, open-none}
@@ -117,8 +117,8 @@ module _ (S : Sheet) (T : Task) (s : List ℕ) (o : Open S) (words : T .material
     pub chosen-placed :
         Lengths S (length s) (length (T .material .list)) (T .material .count) (length (T .material .texture))
         → placeRefusal S (length s) (T .material) (chosenNext S T s) ≡ 0
-    unfolding placeRefusal
-    chosen-placed l = open-none S _ (T .material .table) _ o (lengths-do S _ _ _ _ l) sound ∙ chosen-record
+    unfolding placeRefusalBy
+    chosen-placed l = open-none S _ (tableOk (T .material .table)) _ o (lengths-do S _ _ _ _ l) sound ∙ chosen-record
 
 -- ---- one block: the choice is made, and its record drawn
 
@@ -131,11 +131,11 @@ module _ (w x y : ℕ) (C : Case) (s : List ℕ) where
   pub chosen-drawn :
       {r : Record} {cost : ℕ} {u : List ℕ} → given (r, cost) ≡ chooseAnswer C
       → u ≡ lent (drawRefusal case r) (written (C .n) w x y (predictionOf case r) s) s → u ≡ chosenBlock (C .n) w x y C s
-  unfolding chooseAnswer chosenBlock drawRefusal
+  unfolding chooseAnswer chosenBlock
   chosen-drawn {r} {cost} {u} e q =
       let m = given-means (chooseRefusal C) (chosen C) (r, cost) (sym e) in
       let b : r ≡ chosen C .0 = sym (ap (λ (p : Record × ℕ). p .0) (m .1)) in
-      rw (m .0) (rw (b, accepted C (m .0) .sound, chosen-sound C (m .0)) at q)
+      rw (m .0) (rw (b, chosen-sound C (m .0)) at q)
 
   -- a choice that is refused alters nothing
   pub chosen-never : {k : ℕ} → refused k ≡ chooseAnswer C → s ≡ chosenBlock (C .n) w x y C s

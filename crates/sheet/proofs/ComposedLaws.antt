@@ -4,6 +4,7 @@ use mathlib.Core.List.{List}
 use mathlib.Core.Path.{_≡_, refl, sym, ap, _∙_}
 use native.Mathlib.Numerals.{add-one}
 use lib.ListN.{length}
+use Rattle.depth_table.specs.Table.{tableOk}
 use Rattle.arith.specs.Checks.{given}
 use Rattle.choice.specs.Record.{LeastRecord}
 use Rattle.choice.specs.Search.{chosen}
@@ -31,7 +32,7 @@ module _ (S : Sheet) (T : Task) (s : List ℕ) (records : ℕ) (none : composeRe
   both : Ready S T (length s) records × (choiceRefusal S T ≡ 0)
   unfolding composeRefusal
   both =
-      let p = opened S (lengthsHold S T (length s) records) (T .material .table) (choiceRefusal S T) none in
+      let p = opened S (lengthsHold S T (length s) records) (tableOk (T .material .table)) (choiceRefusal S T) none in
       (compose-ready S T (length s) records (p .0), p .1)
 
   -- the k-th missing block
@@ -72,10 +73,10 @@ module _ (S : Sheet) (T : Task) (s : List ℕ) (records : ℕ) (none : composeRe
       record {
         in-turn = composed-in-turn S T s;
         accepted = λ k more.
-            place-accepted (after k S) (composedTo S T s k) (T .material) (composedRecord S T s k) (accepted-k k more) .0
+            place-accepted _ (after k S) (composedTo S T s k) (T .material) (composedRecord S T s k) (accepted-k k more) .0
             ∙ ap given (after-more S k {u = after k S} refl refl);
         left = λ k more.
-            place-accepted (after k S) (composedTo S T s k) (T .material) (composedRecord S T s k) (accepted-k k more) .1
+            place-accepted _ (after k S) (composedTo S T s k) (T .material) (composedRecord S T s k) (accepted-k k more) .1
             ∙ ap (composedTo S T s) (sym (add-one k));
         least = least-k;
       }

@@ -5,17 +5,20 @@ use mathlib.Core.List.{List, [], _++_}
 use mathlib.Core.Logic.{inl, inr}
 use mathlib.Core.Path.{_≡_, refl, sym, ap, _∙_}
 use native.Mathlib.Omega.{arith}
-use borrow.Author.Tests.{ltb-true}
-use lib.Count.{ones}
+use borrow.Author.Tests.{ltb-true, eq-eqb}
 use lib.Dec.{ltb}
 use lib.IntN.{ℤ}
 use lib.ListN.{length, take}
 use lib.Seq.{length-take-le, take-at}
-use Rattle.arith.specs.Checks.{refused, given, lent}
-use Rattle.arith.proofs.CheckLaws.{lent-refused, lent-given, given-means, refused-means}
-use Rattle.pattern.specs.Size.{greatestSamples, greatestNeighbours}
-use Rattle.pattern.proofs.SizeLaws.{square-256}
-use Rattle.prediction.specs.Answer.{predictRefusal, predictAnswer, predictBlock}
+use Rattle.arith.specs.Checks.{lent}
+use Rattle.depth_table.specs.Table.{someValue}
+use Rattle.pattern.specs.Answer.{samplesRefusal}
+use Rattle.pattern.specs.Size.{greatestSamples, greatestNeighbours, sizeOk}
+use Rattle.pattern.proofs.SizeLaws.{square-256, size-bounds}
+use Rattle.block.specs.Block.{capacity, blockOf, samplesOf}
+use Rattle.block.specs.Answer.{blockAfter, samplesAfter}
+use Rattle.block.proofs.BlockLaws.{samples-again}
+use Rattle.prediction.specs.Answer.{lengthsOk, predictRefusalBy, predictBlockBy, valuesBlock}
 use Rattle.prediction.specs.Block.{predicted}
 use Rattle.prediction.proofs.BlockLaws.{length-predicted}
 use Rattle.choice.specs.Case.{Case, caseOf}
@@ -23,50 +26,61 @@ use Rattle.choice.specs.Record.{predictionOf}
 use Rattle.record.specs.declared.Record.{Record}
 use Rattle.sheet_grid.specs.Neighbours.{neighbours}
 use Rattle.sheet_grid.specs.Counts.{leftCount, topCount, counted}
-use Rattle.sheet_grid.specs.Samples.{written, cut, filled}
+use Rattle.sheet_grid.specs.Samples.{written, cut, cutBlock, filled}
 use Rattle.sheet_grid.proofs.FilledLaws.{take-filled}
 use Rattle.sheet_grid.proofs.NeighbourLaws.{length-neighbours}
 use Rattle.sheet_grid.proofs.PlacedLaws.{neighbours-counted}
-use Rattle.sheet_grid.proofs.SampleLaws.{written-part, length-cut}
+use Rattle.sheet_grid.proofs.SampleLaws.{cut-block, length-cut}
 use Rattle.sheet.specs.State.{nextX, nextY, Open}
-use Rattle.sheet.specs.Place.{Material, Lit, nextTexture, placedSamples, drawRefusal, materialRefusal}
+use Rattle.sheet.specs.Place.{Material, Lit, Drawable, nextTexture, placedSamples, drawRefusal, materialRefusal}
 use Rattle.sheet.specs.declared.Sheet.{Sheet}
 use Rattle.sheet.proofs.ComposeLaws.{textured-next}
 
--- ---- what `predict` answers, and the block that it leaves at the front of an array; z0 and z1 are the offsets
+-- ---- the block of a pattern, drawn by way of an array and a block
 
-module _ (n w x y word : ℕ) (t : List ℕ) (off0 off1 : ℤ) (s near : List ℕ) where
-  abbrev number : ℕ
-  number = predictRefusal n word (4 * n) t off0 off1 (n * n)
+-- nothing is refused of what can be drawn
+pub drawable-none :
+    {n w neighbours samples : ℕ} {t : List ℕ} {off0 off1 : ℤ} → sizeOk n ≡ true → neighbours ≡ 4 * n → samples ≡ n * n → Drawable n w t off0 off1
+    → predictRefusalBy (someValue t) n w neighbours off0 off1 samples ≡ 0
+unfolding predictRefusalBy lengthsOk
+drawable-none size near full p =
+    rw (size, eq-eqb _ _ near, eq-eqb _ _ full, p .valued, p .inside, p .first, p .second)
 
-  abbrev block : List ℕ
-  block = predicted n word near t off0 off1
+module _ (n word : ℕ) (near t : List ℕ) (off0 off1 : ℤ) (size : sizeOk n ≡ true) (near-full : length near ≡ 4 * n) (able : Drawable n word t off0 off1) where
+  -- what prediction leaves at the front of an array
+  pub drawable-front :
+      (held rest : List ℕ) {new : List ℕ} {w : ℕ} {y z : ℤ} → length held ≡ n * n → w ≡ word → y ≡ off0 → z ≡ off1
+      → new ≡ valuesBlock n w near t y z held → take (n * n) (new ++ rest) ≡ predicted n word near t off0 off1
+  unfolding predictBlockBy
+  drawable-front held rest {new} full same f g e =
+      let q : new ≡ predicted n word near t off0 off1 = rw (same, f, g) at e ∙ rw (drawable-none size near-full full able) in
+      take-at new rest (n * n) (ap length q ∙ length-predicted n word near t off0 off1) ∙ q
 
-  module _ (held : List ℕ) {z0 z1 : ℤ} (near-full : length near ≡ 4 * n) (held-full : length held ≡ n * n) (e0 : z0 ≡ off0) (e1 : z1 ≡ off1) where
-    -- nothing is written where it refuses
-    pub draw-refused :
-        {k : ℕ} → refused k ≡ predictAnswer n word near t z0 z1 (length held) → (k ≡ number) × (s ≡ lent number (written n w x y block s) s)
-    unfolding predictAnswer
-    draw-refused {k} e =
-        let m = refused-means number k (ones word) (sym (rw (near-full, held-full, e0, e1) at e)) in
-        (m .0, lent-refused number _ s (m .1))
+  -- as a block, put at (x, y)
+  pub drawable-put :
+      (w x y : ℕ) (new s : List ℕ) {u : List ℕ} (old : List (List ℕ)) {b : List (List ℕ)} {i j : ℤ} → i ≡ off0 → j ≡ off1
+      → new ≡ predicted n word near t i j → b ≡ blockAfter n new old
+      → u ≡ written n w x y (samplesOf n b) s → u ≡ written n w x y (predicted n word near t off0 off1) s
+  unfolding blockAfter samplesRefusal
+  drawable-put w x y new s old {b} p q e f g =
+      let same : new ≡ predicted n word near t off0 off1 = rw (p, q) at e in
+      let full : length new ≡ n * n = ap length same ∙ length-predicted n word near t off0 off1 in
+      let block : b ≡ blockOf capacity n new = f ∙ rw (size, eq-eqb _ _ full) in
+      g ∙ ap (λ (l : List ℕ). written n w x y l s) (ap (samplesOf n) block ∙ samples-again capacity n new (size-bounds n size .1) full ∙ same)
 
-    -- else the block is written
-    pub draw-given :
-        {marks : ℕ} {new u : List ℕ} (rest : List ℕ) → given marks ≡ predictAnswer n word near t z0 z1 (length held)
-        → new ≡ predictBlock n word near t z0 z1 held → u ≡ written n w x y (new ++ rest) s
-        → (0 ≡ number) × (u ≡ lent number (written n w x y block s) s)
-    unfolding predictAnswer predictBlock
-    draw-given {marks} {new} rest e p h =
-        let none : number ≡ 0 = given-means number (ones word) marks (sym (rw (near-full, held-full, e0, e1) at e)) .0 in
-        let b : new ≡ block = rw (near-full, held-full, e0, e1, none) at p in
-        let full : length new ≡ n * n = ap length b ∙ length-predicted n word near t off0 off1 in (
-          sym none,
-          h
-              ∙ written-part n w x y (new ++ rest) s
-              ∙ ap (λ (l : List ℕ). written n w x y l s) (take-at new rest (n * n) full ∙ b)
-              ∙ lent-given number _ s none,
-        )
+-- the same offsets
+pub drawable-as :
+    {n w : ℕ} {t : List ℕ} {off0 off1 y z : ℤ} → off0 ≡ y → off1 ≡ z → Drawable n w t off0 off1 → Drawable n w t y z
+drawable-as e f p = record { inside = p .inside; valued = p .valued; first = rw e at (p .first); second = rw f at (p .second) }
+
+-- the samples of a block that is cut, at the front of an array
+pub cut-front :
+    (n w x y : ℕ) (s : List ℕ) {b : List (List ℕ)} (held rest : List ℕ) {new : List ℕ} → sizeOk n ≡ true → b ≡ cutBlock n w x y s
+    → length held ≡ n * n → new ≡ samplesAfter n b held → take (n * n) (new ++ rest) ≡ cut n w x y s
+unfolding samplesAfter samplesRefusal
+cut-front n w x y s {b} held rest {new} size e full p =
+    let q : new ≡ cut n w x y s = p ∙ rw (size, eq-eqb _ _ full) (ap (samplesOf n) e ∙ cut-block n w x y s (size-bounds n size .1)) in
+    take-at new rest (n * n) (ap length q ∙ length-cut n w x y s) ∙ q
 
 -- ---- the neighbours, samples and texture of the next block, at the front of their arrays
 
@@ -83,24 +97,20 @@ module _ (S : Sheet) (o : Open S) {x y : ℕ} (column : x ≡ nextX S) (row : y 
       (length-neighbours (S .n) (S .width) (S .placed) s) (omega (arith, o .high))
 
   pub own-next :
-      (l : List ℕ) {own : List ℕ} → own ≡ filled greatestSamples (S .n * S .n) (cut (S .n) (S .width) x y l)
+      (l own : List ℕ) → take (S .n * S .n) own ≡ cut (S .n) (S .width) x y l
       → take (S .n * S .n) own ≡ cut (S .n) (S .width) (nextX S) (nextY S) l
-  own-next l {own} e =
-      let f : own ≡ filled greatestSamples (S .n * S .n) (cut (S .n) (S .width) (nextX S) (nextY S) l) = rw (column, row) at e in
-      ap (take (S .n * S .n)) f
-      ∙ take-filled greatestSamples (S .n * S .n) (cut (S .n) (S .width) (nextX S) (nextY S) l)
-      (length-cut (S .n) (S .width) (nextX S) (nextY S) l) (square-256 (o .high))
+  own-next l own e = rw (column, row) at e
 
   pub light-next :
-      (l : List ℕ) {light : List ℕ} {part : ℕ}
-      → (0 < length l → light ≡ filled greatestSamples (S .n * S .n) (cut (S .n) (S .width) x y l))
+      (l light : List ℕ) {part : ℕ}
+      → (0 < length l → take (S .n * S .n) light ≡ cut (S .n) (S .width) x y l)
       → part ≡ cond (ltb 0 (length l)) (S .n * S .n) 0 → take part light ≡ nextTexture S l
-  light-next l {light} {part} h e = ap (λ (m : ℕ). take m light) e ∙ go (ltb 0 (length l)) refl
+  light-next l light {part} h e = ap (λ (m : ℕ). take m light) e ∙ go (ltb 0 (length l)) refl
     where
       go :
           (b : Bool) → ltb 0 (length l) ≡ b
           → take (cond b (S .n * S .n) 0) light ≡ cond b (cut (S .n) (S .width) (nextX S) (nextY S) l) []
-      go true q = own-next l (h (ltb-true 0 (length l) q))
+      go true q = own-next l light (h (ltb-true 0 (length l) q))
       go false q = refl
 
 -- as many samples of texture as are lent of the block fit its array
@@ -129,7 +139,6 @@ module _ (S : Sheet) (o : Open S) (M : Material) (s : List ℕ) (r : Record) {ne
   case = caseOf (S .n) (M .list) (M .count) near [] (M .table) 0 light
 
   draw-material : drawRefusal case r ≡ materialRefusal S M r
-  unfolding drawRefusal materialRefusal
   draw-material = rw (lit, textured-next S (M .texture) (omega (arith, o .low)))
 
   pub draw-next :

@@ -10,6 +10,7 @@ use lib.ListN.{length}
 use Rattle.arith.specs.Checks.{Answer, refused, answer}
 use Rattle.arith.proofs.Bools.{both-of}
 use Rattle.arith.proofs.CheckLaws.{answer-refused, lent-refused}
+use Rattle.depth_table.specs.Table.{tableOk}
 use Rattle.sheet.specs.State.{area, blocksOf, finished, lengthsOk, openRefusal}
 use Rattle.sheet.specs.Compose.{missing, Task, samplesBy, recordsBy, composeLengthsOk, choiceRefusal, Ready, composeRefusal, composeAnswer, composeAfter, composeRecords}
 use Rattle.sheet.specs.declared.Sheet.{Sheet}
@@ -23,20 +24,20 @@ module _ (S : Sheet) (T : Task) (samples records : ℕ) where
 
   -- a refusal of the state or the table is composing's
   pub compose-kept :
-      {l : Bool} {k : ℕ} → l ≡ lengthsHold → k ≡ openRefusal S l (T .material .table) 0 → (k ≡ 0 → ⊥) → k ≡ composeRefusal S samples T records
+      {l : Bool} {k : ℕ} → l ≡ lengthsHold → k ≡ openRefusal S l (tableOk (T .material .table)) 0 → (k ≡ 0 → ⊥) → k ≡ composeRefusal S samples T records
   unfolding composeRefusal
   compose-kept {l} {k} el e h =
-      let q : k ≡ openRefusal S lengthsHold (T .material .table) 0 = rw el at e in
-      q ∙ sym (open-kept S lengthsHold (T .material .table) (choiceRefusal S T) (λ z. h (q ∙ z)))
+      let q : k ≡ openRefusal S lengthsHold (tableOk (T .material .table)) 0 = rw el at e in
+      q ∙ sym (open-kept S lengthsHold (tableOk (T .material .table)) (choiceRefusal S T) (λ z. h (q ∙ z)))
 
   -- past them, the rest decides
-  pub compose-passed : openRefusal S lengthsHold (T .material .table) 0 ≡ 0 → composeRefusal S samples T records ≡ choiceRefusal S T
+  pub compose-passed : openRefusal S lengthsHold (tableOk (T .material .table)) 0 ≡ 0 → composeRefusal S samples T records ≡ choiceRefusal S T
   unfolding composeRefusal
-  compose-passed none = open-passed S lengthsHold (T .material .table) (choiceRefusal S T) none
+  compose-passed none = open-passed S lengthsHold (tableOk (T .material .table)) (choiceRefusal S T) none
 
   -- what then holds
   pub compose-ready :
-      Opened S lengthsHold (T .material .table) → Ready S T samples records
+      Opened S lengthsHold (tableOk (T .material .table)) → Ready S T samples records
   unfolding composeLengthsOk
   compose-ready o =
       let a = both-of (lengthsOk S samples (length (T .material .list)) (T .material .count) (length (T .material .texture))) _ (o .right) in

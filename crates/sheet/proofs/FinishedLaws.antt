@@ -17,38 +17,38 @@ use Rattle.record.specs.declared.Record.{Record}
 use Rattle.record.specs.Meaning.{kindMeaning, kindRefusal, offsetRefusal, recordRefusal}
 use Rattle.sheet.specs.Checks.{stateChecks, startRefusalBy}
 use Rattle.sheet.specs.State.{blocksOf, sidesOk, lengthsOk, openRefusal}
-use Rattle.sheet.specs.Place.{Material, placeRefusal}
+use Rattle.sheet.specs.Place.{Material, placeRefusalBy, placeRefusal}
 use Rattle.sheet.specs.Compose.{Task, choiceChecks, choiceRefusal, composeRefusal}
 use Rattle.sheet.specs.declared.Sheet.{Sheet}
 use Rattle.sheet.proofs.EndLaws.{lengthsHold}
 
-module _ (S : Sheet) (lengths : Bool) (t : List ℕ) (rest : ℕ) where
+module _ (S : Sheet) (lengths asked : Bool) (rest : ℕ) where
   -- the checks before 20, and what comes after them
   abbrev checks : List (Bool × ℕ)
   checks = stateChecks (S .n) (S .width) (S .height) (S .placed) lengths
 
   abbrev after-them : ℕ
-  after-them = refusal ((ltb (S .placed) (blocksOf S), 20) ∷ (tableOk t, 3) ∷ []) rest
+  after-them = refusal ((ltb (S .placed) (blocksOf S), 20) ∷ (asked, 3) ∷ []) rest
 
   -- a finished sheet whose size, lengths and sides are right
   finished-open :
-      sizeOk (S .n) ≡ true → lengths ≡ true → sidesOk S ≡ true → S .placed ≡ blocksOf S → openRefusal S lengths t rest ≡ 20
+      sizeOk (S .n) ≡ true → lengths ≡ true → sidesOk S ≡ true → S .placed ≡ blocksOf S → openRefusal S lengths asked rest ≡ 20
   unfolding startRefusalBy
   finished-open size right sides all =
       rw (size, right, sides, le-leb (S .placed) (blocksOf S) (omega arith), le-ltb (S .placed) (blocksOf S) (omega arith))
 
   -- nothing else gives 20, if the checks after these do not
-  open-finished : (rest ≡ 20 → ⊥) → openRefusal S lengths t rest ≡ 20 → S .placed ≡ blocksOf S
+  open-finished : (rest ≡ 20 → ⊥) → openRefusal S lengths asked rest ≡ 20 → S .placed ≡ blocksOf S
   unfolding startRefusalBy
   open-finished h e =
       let p = later checks after-them 20 refl e in
       go (ltb (S .placed) (blocksOf S)) refl (leb-true (S .placed) (blocksOf S) (p .0 .1 .1 .1 .0)) (p .1)
     where
       go :
-          (b : Bool) → ltb (S .placed) (blocksOf S) ≡ b → S .placed ≤ blocksOf S → unless b 20 (refusal ((tableOk t, 3) ∷ []) rest) ≡ 20
+          (b : Bool) → ltb (S .placed) (blocksOf S) ≡ b → S .placed ≤ blocksOf S → unless b 20 (refusal ((asked, 3) ∷ []) rest) ≡ 20
           → S .placed ≡ blocksOf S
       go false p l q = omega (arith, ltb-false (S .placed) (blocksOf S) p)
-      go true p l q = absurd (h (later ((tableOk t, 3) ∷ []) rest 20 refl q .1))
+      go true p l q = absurd (h (later ((asked, 3) ∷ []) rest 20 refl q .1))
 
 -- ---- placing
 
@@ -67,15 +67,15 @@ pub place-finished :
     (S : Sheet) (samples : ℕ) (M : Material) (r : Record) → sizeOk (S .n) ≡ true
     → lengthsOk S samples (length (M .list)) (M .count) (length (M .texture)) ≡ true → sidesOk S ≡ true → S .placed ≡ blocksOf S
     → placeRefusal S samples M r ≡ 20
-unfolding placeRefusal
+unfolding placeRefusalBy
 place-finished S samples M r size right sides all =
-    finished-open S (lengthsOk S samples (length (M .list)) (M .count) (length (M .texture))) (M .table) _ size right sides all
+    finished-open S (lengthsOk S samples (length (M .list)) (M .count) (length (M .texture))) (tableOk (M .table)) _ size right sides all
 
 -- and 20 is given for nothing else
 pub place-twenty : (S : Sheet) (samples : ℕ) (M : Material) (r : Record) → placeRefusal S samples M r ≡ 20 → S .placed ≡ blocksOf S
-unfolding placeRefusal recordRefusal
+unfolding placeRefusalBy recordRefusal
 place-twenty S samples M r =
-    open-finished S (lengthsOk S samples (length (M .list)) (M .count) (length (M .texture))) (M .table) _
+    open-finished S (lengthsOk S samples (length (M .list)) (M .count) (length (M .texture))) (tableOk (M .table)) _
     (kind-not (S .n) (M .list) (M .count) (textured (M .texture)) (r .kind) (r .entry) (offsets-not r))
 
 -- ---- composing
@@ -89,9 +89,9 @@ pub compose-finished :
     → sidesOk S ≡ true → S .placed ≡ blocksOf S → composeRefusal S samples T records ≡ 20
 unfolding composeRefusal
 compose-finished S samples T records size right sides all =
-    finished-open S (lengthsHold S T samples records) (T .material .table) _ size right sides all
+    finished-open S (lengthsHold S T samples records) (tableOk (T .material .table)) _ size right sides all
 
 pub compose-twenty : (S : Sheet) (samples : ℕ) (T : Task) (records : ℕ) → composeRefusal S samples T records ≡ 20 → S .placed ≡ blocksOf S
 unfolding composeRefusal
 compose-twenty S samples T records =
-    open-finished S (lengthsHold S T samples records) (T .material .table) _ (choice-not S T)
+    open-finished S (lengthsHold S T samples records) (tableOk (T .material .table)) _ (choice-not S T)

@@ -7,6 +7,7 @@ use native.Mathlib.Omega.{arith}
 use lib.ListN.{length}
 use lib.Seq.{ext-getD}
 use Rattle.arith.specs.Checks.{given}
+use Rattle.depth_table.specs.Table.{tableOk}
 use Rattle.record.specs.declared.Record.{Record}
 use Rattle.sheet.specs.State.{after, area, Open}
 use Rattle.sheet.specs.Place.{Material, placeRefusal, placeAnswer, placeAfter, placedInTurn}
@@ -30,7 +31,7 @@ module _ (S : Sheet) (M : Material) (records : ℕ → Record) where
       × (placeAfter (after k S) (placedInTurn S M records s k) M (records k) ≡ placedInTurn S M records s (k + 1))
   unfolding placedInTurn
   placed-in-turn s k e =
-      let p = place-accepted (after k S) (placedInTurn S M records s k) M (records k) (rw (length-in-turn s k) e) in
+      let p = place-accepted (tableOk (M .table)) (after k S) (placedInTurn S M records s k) M (records k) (rw (length-in-turn s k) e) in
       (p .0 ∙ ap given (after-more S k {u = after k S} refl refl), rw add-one (p .1))
 
   -- samples that are the same in every placed block stay so

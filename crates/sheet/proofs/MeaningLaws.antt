@@ -1,4 +1,4 @@
--- The pattern of a record that is drawn for a case, and what prediction says of it.
+-- The pattern of a record that is drawn for a case, and what drawing answers and leaves.
 use Prim.Native.Nat.{ℕ, _*_}
 use mathlib.Core.Bool.{true}
 use mathlib.Core.List.{List}
@@ -8,14 +8,13 @@ use native.Mathlib.Omega.{arith}
 use borrow.Author.Tests.{eq-eqb, lt-ltb, ltb-true}
 use lib.IntN.{ℤ}
 use lib.ListN.{length}
-use Rattle.arith.specs.Checks.{unless, Answer, given, refused, lent}
+use Rattle.arith.specs.Checks.{Answer, given, refused, lent}
 use Rattle.arith.proofs.BitLaws.{bits-lt}
-use Rattle.arith.proofs.CheckLaws.{passed}
-use Rattle.depth_table.specs.Table.{tableOk}
+use Rattle.arith.proofs.CheckLaws.{lent-given, lent-refused}
+use Rattle.depth_table.specs.Table.{someValue}
 use Rattle.pattern.specs.Answer.{textured, samplesRefusal, contourAnswer}
 use Rattle.pattern.specs.Contour.{contourOf}
 use Rattle.pattern.specs.Size.{sizeOk, wordOk}
-use Rattle.prediction.specs.Answer.{lengthsOk, predictRefusal}
 use Rattle.choice.specs.Case.{Case}
 use Rattle.choice.specs.Record.{patternOf, predictionOf}
 use Rattle.prediction.specs.Block.{predicted}
@@ -23,7 +22,7 @@ use Rattle.sheet_grid.specs.Samples.{written}
 use Rattle.record.specs.declared.Record.{Record}
 use Rattle.record.specs.Meaning.{Named, listed, contour, patternNamed, recordMeaning, recordRefusal}
 use Rattle.record.proofs.MeaningLaws.{record-sound, meaning-given, meaning-refused, contour-lit, pattern-fits}
-use Rattle.sheet.specs.Place.{drawRefusal}
+use Rattle.sheet.specs.Place.{Drawable, drawRefusal}
 
 -- no contour has a bit from n * n up
 pub contour-fits : (n : ℕ) (t : List ℕ) → wordOk n (contourOf n t) ≡ true
@@ -50,30 +49,9 @@ module _ (C : Case) (r : Record) where
   case-contour e =
       sym (ap (patternNamed (contourOf (C .n) (C .texture))) (meaning-given (C .n) (C .list) (C .count) (textured (C .texture)) r e .1))
 
-  -- it marks samples of the block only
-  pub case-fits : {x : Named} → given x ≡ meaning → wordOk (C .n) (patternOf C r) ≡ true
-  case-fits e =
-      pattern-fits (C .n) (C .list) (C .count) (textured (C .texture)) r _ (contour-fits (C .n) (C .texture))
-      (meaning-given (C .n) (C .list) (C .count) (textured (C .texture)) r e .0)
-
-  -- prediction then refuses only the table
-  pub case-predicts :
-      {x : Named} → sizeOk (C .n) ≡ true → given x ≡ meaning
-      → predictRefusal (C .n) (patternOf C r) (4 * C .n) (C .table) (r .off0) (r .off1) (C .n * C .n) ≡ drawRefusal C r
-  unfolding predictRefusal lengthsOk drawRefusal
-  case-predicts size e =
-      let h = meaning-given (C .n) (C .list) (C .count) (textured (C .texture)) r e .0 in
-      let q = record-sound (C .n) (C .list) (C .count) (textured (C .texture)) r h in
-      rw (size, eq-eqb (4 * C .n) (4 * C .n) refl, eq-eqb (C .n * C .n) (C .n * C .n) refl, case-fits e, q .first, q .second, h)
-
-  -- a record that is refused, behind the table
-  pub case-refused :
-      {k t : ℕ} → refused k ≡ meaning → t ≡ unless (tableOk (C .table)) 3 k → (t ≡ drawRefusal C r) × (drawRefusal C r ≡ 0 → ⊥)
-  unfolding drawRefusal
-  case-refused {k} {t} e p =
-      let m = meaning-refused (C .n) (C .list) (C .count) (textured (C .texture)) r e in
-      let q : t ≡ unless (tableOk (C .table)) 3 (recordRefusal (C .n) (C .list) (C .count) (textured (C .texture)) r) = rw (m .0) at p in
-      (q, λ z. m .1 (m .0 ∙ passed (tableOk (C .table)) 2 (recordRefusal (C .n) (C .list) (C .count) (textured (C .texture)) r) z .1))
+  -- a record that means something is not refused
+  pub case-named : {x : Named} → given x ≡ meaning → drawRefusal C r ≡ 0
+  case-named e = meaning-given (C .n) (C .list) (C .count) (textured (C .texture)) r e .0
 
   -- the texture is whole where the contour is meant
   pub case-lit : {m : ℕ} → given contour ≡ meaning → (length (C .texture) ≡ 0) ⊎ (length (C .texture) ≡ m) → length (C .texture) ≡ m
@@ -82,12 +60,23 @@ module _ (C : Case) (r : Record) where
       (λ z. absurd (omega (arith, ltb-true 0 (length (C .texture)) (contour-lit (C .n) (C .list) (C .count) (textured (C .texture)) r e))))
       (λ z. z)
 
-  -- what is drawn of the pattern, from what prediction says of it
-  pub case-drawn :
-      {x : Named} (w i j : ℕ) (s : List ℕ) {word t : ℕ} {u : List ℕ} {z0 z1 : ℤ} → sizeOk (C .n) ≡ true → given x ≡ meaning → word ≡ patternOf C r
-      → z0 ≡ r .off0 → z1 ≡ r .off1 → t ≡ predictRefusal (C .n) word (4 * C .n) (C .table) z0 z1 (C .n * C .n)
-      → u ≡ lent (predictRefusal (C .n) word (4 * C .n) (C .table) z0 z1 (C .n * C .n)) (written (C .n) w i j (predicted (C .n) word (C .neighbours) (C .table) z0 z1) s) s
-      → (t ≡ drawRefusal C r) × (u ≡ lent (drawRefusal C r) (written (C .n) w i j (predictionOf C r) s) s)
-  case-drawn w i j s size e word f0 f1 p q =
-      let k = case-predicts size e in
-      (rw k at (rw (word, f0, f1) at p), rw k at (rw (word, f0, f1) at q))
+  -- a record that is not refused can be drawn: its pattern marks samples of the block only, and its offsets are allowed
+  module _ (none : drawRefusal C r ≡ 0) where
+    pub case-drawable : {w : ℕ} → w ≡ patternOf C r → someValue (C .table) ≡ true → Drawable (C .n) w (C .table) (r .off0) (r .off1)
+    case-drawable p some =
+        let q = record-sound (C .n) (C .list) (C .count) (textured (C .texture)) r none in
+        let fits = pattern-fits (C .n) (C .list) (C .count) (textured (C .texture)) r _ (contour-fits (C .n) (C .texture)) none in
+        record { inside = rw p fits; valued = some; first = q .first; second = q .second }
+
+    -- and what is drawn is its prediction
+    pub case-drawn :
+        (w i j : ℕ) (s : List ℕ) {word : ℕ} {u : List ℕ} {z0 z1 : ℤ} → word ≡ patternOf C r → z0 ≡ r .off0 → z1 ≡ r .off1
+        → u ≡ written (C .n) w i j (predicted (C .n) word (C .neighbours) (C .table) z0 z1) s
+        → (0 ≡ drawRefusal C r) × (u ≡ lent (drawRefusal C r) (written (C .n) w i j (predictionOf C r) s) s)
+    case-drawn w i j s word f0 f1 q = (sym none, rw (word, f0, f1) at q ∙ lent-given (drawRefusal C r) _ s none)
+
+  -- the record is refused
+  pub case-refused : {k : ℕ} (w i j : ℕ) (s : List ℕ) → refused k ≡ meaning → (k ≡ drawRefusal C r) × (s ≡ lent (drawRefusal C r) (written (C .n) w i j (predictionOf C r) s) s)
+  case-refused w i j s e =
+      let m = meaning-refused (C .n) (C .list) (C .count) (textured (C .texture)) r e in
+      (m .0, lent-refused (drawRefusal C r) _ s (λ z. m .1 (m .0 ∙ z)))

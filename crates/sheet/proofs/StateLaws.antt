@@ -10,12 +10,12 @@ use borrow.Author.Tests.{eq-eqb, eqb-true, le-leb, lt-ltb, ltb-true}
 use lib.Dec.{eqb}
 use Rattle.arith.proofs.Bools.{both-of}
 use Rattle.arith.proofs.CheckLaws.{holds, passes, kept}
-use Rattle.depth_table.specs.Table.{tableOk}
+use Rattle.arith.specs.Checks.{refusal}
 use Rattle.pattern.specs.Answer.{countOk, textureOk}
 use Rattle.pattern.proofs.AnswerLaws.{texture-is, is-texture, count-is, is-count}
 use Rattle.pattern.proofs.SizeLaws.{size-bounds}
 use Rattle.sheet_grid.specs.Grid.{longest, mostSamples, sideOk, Inside}
-use Rattle.sheet.specs.Checks.{lengthsOkBy, startChecks, startRefusalBy, tableRefusal}
+use Rattle.sheet.specs.Checks.{lengthsOkBy, startChecks, startRefusalBy}
 use Rattle.sheet.proofs.SideLaws.{side-bounds}
 use Rattle.sheet.specs.State.{area, blocksOf, nextX, nextY, lengthsOk, startRefusal, openRefusal, Open, Lengths}
 use Rattle.sheet.specs.declared.Sheet.{Sheet}
@@ -110,37 +110,37 @@ module _ (S : Sheet) (lengths : Bool) where
         p .1,
       )
 
-module _ (S : Sheet) (lengths : Bool) (t : List ℕ) where
-  -- the checks of the state and of the table
+module _ (S : Sheet) (lengths asked : Bool) where
+  -- the checks of the state, and whether the table is as asked
   abbrev checks : List (Bool × ℕ)
-  checks = startChecks (S .n) (S .width) (S .height) (S .placed) lengths ++ ((tableOk t, 3) ∷ [])
+  checks = startChecks (S .n) (S .width) (S .height) (S .placed) lengths ++ ((asked, 3) ∷ [])
 
   -- a refusal of the state or the table stays, whatever is checked after it
-  pub open-kept : (rest : ℕ) → (openRefusal S lengths t 0 ≡ 0 → ⊥) → openRefusal S lengths t rest ≡ openRefusal S lengths t 0
+  pub open-kept : (rest : ℕ) → (openRefusal S lengths asked 0 ≡ 0 → ⊥) → openRefusal S lengths asked rest ≡ openRefusal S lengths asked 0
   unfolding startRefusalBy
   open-kept rest h = kept checks rest h
 
   -- where there is none
   pub record Opened : Type 0 where
     pub right : lengths ≡ true
-    pub sound : tableOk t ≡ true
+    pub sound : asked ≡ true
     pub tall : S .n ≤ S .height
     pub is : Open S
 
-  pub opened : (rest : ℕ) → openRefusal S lengths t rest ≡ 0 → Opened × (rest ≡ 0)
+  pub opened : (rest : ℕ) → openRefusal S lengths asked rest ≡ 0 → Opened × (rest ≡ 0)
   opened rest h =
-      let p = started S lengths (tableRefusal t rest) h in
-      let q = holds ((tableOk t, 3) ∷ []) rest (p .1) in
+      let p = started S lengths (refusal ((asked, 3) ∷ []) rest) h in
+      let q = holds ((asked, 3) ∷ []) rest (p .1) in
       (record { right = p .0 .right; sound = q .0 .0; tall = p .0 .tall; is = p .0 .is }, q .1)
 
   -- such a state is not refused
-  pub open-none : (rest : ℕ) → Open S → lengths ≡ true → tableOk t ≡ true → openRefusal S lengths t rest ≡ rest
+  pub open-none : (rest : ℕ) → Open S → lengths ≡ true → asked ≡ true → openRefusal S lengths asked rest ≡ rest
   unfolding startRefusalBy
   open-none rest o right sound =
       let few = le-leb (S .placed) (blocksOf S) (omega (arith, o .missing)) in
       passes checks rest (o .size, (right, (o .sides, (few, (lt-ltb (S .placed) (blocksOf S) (o .missing), (sound, tt))))))
 
   -- then what is checked after it decides
-  pub open-passed : (rest : ℕ) → openRefusal S lengths t 0 ≡ 0 → openRefusal S lengths t rest ≡ rest
+  pub open-passed : (rest : ℕ) → openRefusal S lengths asked 0 ≡ 0 → openRefusal S lengths asked rest ≡ rest
   unfolding startRefusalBy
   open-passed rest h = passes checks rest (holds checks 0 h .0)

@@ -16,6 +16,7 @@ use Rattle.record.specs.declared.Record.{Record}
 use Rattle.choice.specs.Search.{chosen}
 use Rattle.choice.specs.Answer.{chooseAnswer}
 use Rattle.sheet.specs.State.{area, blocksOf, finished, Open, Lengths}
+use Rattle.depth_table.proofs.LevelLaws.{table-some}
 use Rattle.sheet.specs.Place.{placedSamples, Fits}
 use Rattle.sheet.specs.Compose.{missing, Task, composeCase, chosenNext, chosenBlock, composedNext, composedTo, over, Leaves, choiceRefusal, Ready}
 use Rattle.sheet.specs.declared.Sheet.{Sheet}
@@ -58,7 +59,7 @@ turn S T samples0 records0 ready {k} {state} {samples} going more same =
 module _ {S : Sheet} {T : Task} {state : Sheet} {samples : List ℕ} (t : Turn S T state samples) where
   -- what is lent fits the state
   pub turn-fits : Fits state (T .material) (length samples)
-  turn-fits = record { is-open = t .is-open; lengths = t .lengths }
+  turn-fits = record { valued = table-some _ (t .sound); is-open = t .is-open; lengths = t .lengths }
 
   -- the choice for the block is refused where composing is
   turn-refusal : chooseRefusal (composeCase state T samples) ≡ choiceRefusal S T

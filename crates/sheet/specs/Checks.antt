@@ -4,7 +4,6 @@ use mathlib.Core.Bool.{Bool, _&&_}
 use mathlib.Core.List.{List, [], _∷_, _++_}
 use lib.Dec.{eqb, leb, ltb}
 use Rattle.arith.specs.Checks.{refusal}
-use Rattle.depth_table.specs.Table.{tableOk}
 use Rattle.pattern.specs.Size.{sizeOk}
 use Rattle.pattern.specs.Answer.{countOk, textureOk}
 use Rattle.sheet_grid.specs.Grid.{sideOk, blocks}
@@ -41,7 +40,3 @@ startChecks n w h k lengths = stateChecks n w h k lengths ++ ((ltb k (blocks n w
 
 unfoldable pub startRefusalBy : ℕ → ℕ → ℕ → ℕ → Bool → ℕ → ℕ
 startRefusalBy n w h k lengths rest = refusal (startChecks n w h k lengths) rest
-
--- 3: the table; then the rest
-abbrev pub tableRefusal : List ℕ → ℕ → ℕ
-tableRefusal t rest = refusal ((tableOk t, 3) ∷ []) rest

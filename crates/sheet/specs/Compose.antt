@@ -109,7 +109,7 @@ composeRefusal S samples T records =
     let M = T .material in
     openRefusal S
     (composeLengthsOk S samples (length (M .list)) (M .count) (length (M .texture)) (length (T .original)) records)
-    (M .table)
+    (tableOk (M .table))
     (choiceRefusal S T)
 
 -- `compose` answers the finished state and the number of records written

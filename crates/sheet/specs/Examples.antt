@@ -22,7 +22,7 @@ use Rattle.sheet.specs.Checks.{lengthsOkBy, startRefusalBy}
 use Rattle.sheet.specs.State.{stateOf}
 use Rattle.record.specs.Meaning.{recordRefusal}
 use Rattle.record.specs.Record.{recordOf}
-use Rattle.sheet.specs.Place.{Material, materialOf, placedSamples, placeRefusal}
+use Rattle.sheet.specs.Place.{Material, materialOf, placedSamples, placeRefusalBy, placeRefusal}
 use Rattle.sheet.specs.Compose.{Task, taskOf, composedTo, composedRecord}
 use Rattle.sheet.specs.declared.Sheet.{Sheet}
 
@@ -63,7 +63,7 @@ pub record PlaceRefusals : Type 0 where
   pub none : placeRefusal (oneBlock 0) 16 sampleMaterial sampleRecord ≡ 0
 
 pub place-refusals : PlaceRefusals
-unfolding bytes rising tableOk offsetOk lengthsOkBy startRefusalBy recordRefusal placeRefusal
+unfolding bytes rising tableOk offsetOk lengthsOkBy startRefusalBy recordRefusal placeRefusalBy
 place-refusals =
     record {
       size = refl;

@@ -1,12 +1,15 @@
 -- Document 01, "Sheet": placing a record.
 use Prim.Native.Nat.{ℕ, zero, suc, _*_, _<_}
 use mathlib.Core.Path.{_≡_}
-use mathlib.Core.Bool.{true, cond}
+use mathlib.Core.Bool.{Bool, true, cond}
 use mathlib.Core.List.{List, []}
 use mathlib.Core.Logic.{_⊎_}
+use lib.IntN.{ℤ}
 use lib.ListN.{length}
 use Rattle.arith.specs.Checks.{Answer, answer, lent}
-use Rattle.pattern.specs.Size.{sizeOk}
+use Rattle.depth_table.specs.Offset.{offsetOk}
+use Rattle.depth_table.specs.Table.{tableOk, someValue}
+use Rattle.pattern.specs.Size.{sizeOk, wordOk}
 use Rattle.pattern.specs.Answer.{textured}
 use Rattle.sheet_grid.specs.Grid.{Inside}
 use Rattle.choice.specs.Case.{Case, caseOf}
@@ -15,7 +18,6 @@ use Rattle.record.specs.declared.Record.{Record}
 use Rattle.sheet_grid.specs.Neighbours.{neighbours}
 use Rattle.sheet_grid.specs.Samples.{written, cut}
 use Rattle.sheet.specs.State.{after, nextX, nextY, lengthsOk, openRefusal, Open, Lengths}
-use Rattle.sheet.specs.Checks.{tableRefusal}
 use Rattle.record.specs.Meaning.{recordRefusal}
 use Rattle.sheet.specs.declared.Sheet.{Sheet}
 
@@ -50,27 +52,42 @@ drawn S M s r = predictionOf (placeCase S M s) r
 unfoldable pub placedSamples : Sheet → Material → List ℕ → Record → List ℕ
 placedSamples S M s r = written (S .n) (S .width) (nextX S) (nextY S) (drawn S M s r) s
 
--- 3, the table, then the record's 7, 21, 6, 5, 4: of a record that is to be drawn from a case's list, table and texture
-unfoldable pub drawRefusal : Case → Record → ℕ
-drawRefusal C r = tableRefusal (C .table) (recordRefusal (C .n) (C .list) (C .count) (textured (C .texture)) r)
+-- 7, 21, 6, 5, 4: of a record that is to be drawn for a case, and of one that is to be placed
+abbrev pub drawRefusal : Case → Record → ℕ
+drawRefusal C r = recordRefusal (C .n) (C .list) (C .count) (textured (C .texture)) r
 
--- and of one that is to be placed
-unfoldable pub materialRefusal : Sheet → Material → Record → ℕ
-materialRefusal S M r = tableRefusal (M .table) (recordRefusal (S .n) (M .list) (M .count) (textured (M .texture)) r)
+abbrev pub materialRefusal : Sheet → Material → Record → ℕ
+materialRefusal S M r = recordRefusal (S .n) (M .list) (M .count) (textured (M .texture)) r
 
--- 1, 2, 8, 23, 20, 3, then the record's 7, 21, 6, 5, 4; samples is the length of the lent samples
-unfoldable pub placeRefusal : Sheet → ℕ → Material → Record → ℕ
-placeRefusal S samples M r =
-    openRefusal S (lengthsOk S samples (length (M .list)) (M .count) (length (M .texture))) (M .table)
-    (recordRefusal (S .n) (M .list) (M .count) (textured (M .texture)) r)
+-- 1, 2, 8, 23, 20, 3, where the table is not as asked, then the record's 7, 21, 6, 5, 4; samples is the length of the lent samples
+unfoldable pub placeRefusalBy : Bool → Sheet → ℕ → Material → Record → ℕ
+placeRefusalBy asked S samples M r =
+    openRefusal S (lengthsOk S samples (length (M .list)) (M .count) (length (M .texture))) asked (materialRefusal S M r)
 
--- `place` answers the next state
-unfoldable pub placeAnswer : Sheet → List ℕ → Material → Record → Answer Sheet
-placeAnswer S s M r = answer (placeRefusal S (length s) M r) (after 1 S)
+-- the next state is answered
+unfoldable pub placeAnswerBy : Bool → Sheet → List ℕ → Material → Record → Answer Sheet
+placeAnswerBy asked S s M r = answer (placeRefusalBy asked S (length s) M r) (after 1 S)
 
 -- the lent samples afterwards
-unfoldable pub placeAfter : Sheet → List ℕ → Material → Record → List ℕ
-placeAfter S s M r = lent (placeRefusal S (length s) M r) (placedSamples S M s r) s
+unfoldable pub placeAfterBy : Bool → Sheet → List ℕ → Material → Record → List ℕ
+placeAfterBy asked S s M r = lent (placeRefusalBy asked S (length s) M r) (placedSamples S M s r) s
+
+-- `place` asks for a sound table
+abbrev pub placeRefusal : Sheet → ℕ → Material → Record → ℕ
+placeRefusal S samples M r = placeRefusalBy (tableOk (M .table)) S samples M r
+
+abbrev pub placeAnswer : Sheet → List ℕ → Material → Record → Answer Sheet
+placeAnswer S s M r = placeAnswerBy (tableOk (M .table)) S s M r
+
+abbrev pub placeAfter : Sheet → List ℕ → Material → Record → List ℕ
+placeAfter S s M r = placeAfterBy (tableOk (M .table)) S s M r
+
+-- `place_from_values` for a value
+abbrev pub valuesAnswer : Sheet → List ℕ → Material → Record → Answer Sheet
+valuesAnswer S s M r = placeAnswerBy (someValue (M .table)) S s M r
+
+abbrev pub valuesAfter : Sheet → List ℕ → Material → Record → List ℕ
+valuesAfter S s M r = placeAfterBy (someValue (M .table)) S s M r
 
 -- the samples after the first k records are placed in turn
 unfoldable pub placedInTurn : Sheet → Material → (ℕ → Record) → List ℕ → ℕ → List ℕ
@@ -85,15 +102,24 @@ pub record Site (n w samples x y neighbours : ℕ) : Type 0 where
   pub inside : Inside n w samples x y
   pub bordered : neighbours ≡ 4 * n
 
+-- a pattern of the block, a table that has a value, and two offsets
+pub record Drawable (n w : ℕ) (t : List ℕ) (off0 off1 : ℤ) : Type 0 where
+  pub inside : wordOk n w ≡ true
+  pub valued : someValue t ≡ true
+  pub first : offsetOk off0 ≡ true
+  pub second : offsetOk off1 ≡ true
+
 -- a block's own texture: none, or as many samples as it has
 abbrev pub Lit : ℕ → ℕ → Type 0
 Lit n texture = (texture ≡ 0) ⊎ (texture ≡ n * n)
 
 -- the block at (x, y) lies inside the sheet's texture, if any is lent
-abbrev pub BlockLit : ℕ → ℕ → ℕ → ℕ → ℕ → Type 0
-BlockLit n w texture x y = 0 < texture → Inside n w texture x y
+pub record BlockLit (n w texture x y : ℕ) : Type 0 where
+  pub size : sizeOk n ≡ true
+  pub inside : 0 < texture → Inside n w texture x y
 
--- a state that has a block to place, and what is lent fits it
+-- a state that has a block to place, what is lent fits it, and the table has a value
 pub record Fits (S : Sheet) (M : Material) (samples : ℕ) : Type 0 where
+  pub valued : someValue (M .table) ≡ true
   pub is-open : Open S
   pub lengths : Lengths S samples (length (M .list)) (M .count) (length (M .texture))

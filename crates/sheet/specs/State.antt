@@ -2,12 +2,12 @@
 use Prim.Native.Nat.{ℕ, _+_, _*_, _≤_, _<_}
 use mathlib.Core.Path.{_≡_}
 use mathlib.Core.Bool.{Bool, true}
-use mathlib.Core.List.{List}
+use mathlib.Core.List.{[], _∷_}
 use mathlib.Core.Logic.{_⊎_}
-use Rattle.arith.specs.Checks.{Answer, answer}
+use Rattle.arith.specs.Checks.{refusal, Answer, answer}
 use Rattle.pattern.specs.Size.{greatestSize, sizeOk}
 use Rattle.sheet_grid.specs.Grid.{longest, blocks, blockX, blockY}
-use Rattle.sheet.specs.Checks.{sidesOkBy, newRefusal, lengthsOkBy, stateRefusalBy, startRefusalBy, tableRefusal}
+use Rattle.sheet.specs.Checks.{sidesOkBy, newRefusal, lengthsOkBy, stateRefusalBy, startRefusalBy}
 use Rattle.sheet.specs.declared.Sheet.{Sheet}
 
 -- The state is n, width, height and the number of blocks placed.
@@ -59,9 +59,9 @@ stateRefusal S lengths rest = stateRefusalBy (S .n) (S .width) (S .height) (S .p
 abbrev pub startRefusal : Sheet → Bool → ℕ → ℕ
 startRefusal S lengths rest = startRefusalBy (S .n) (S .width) (S .height) (S .placed) lengths rest
 
--- and 3, the table, before the rest
-abbrev pub openRefusal : Sheet → Bool → List ℕ → ℕ → ℕ
-openRefusal S lengths t rest = startRefusal S lengths (tableRefusal t rest)
+-- and 3 before the rest, where the table is not as asked
+abbrev pub openRefusal : Sheet → Bool → Bool → ℕ → ℕ
+openRefusal S lengths asked rest = startRefusal S lengths (refusal ((asked, 3) ∷ []) rest)
 
 -- what holds of a state that has a block to place
 pub record Open (S : Sheet) : Type 0 where

@@ -15,7 +15,7 @@ use crate::drawing::choose_at;
 use crate::neighbours::neighbours_of;
 use crate::placing::lent_part;
 use crate::placing::light_at;
-use crate::samples::cut_at;
+use crate::samples::cut_samples;
 use choice::Choice;
 use pattern::check;
 use record::fields_of;
@@ -67,7 +67,7 @@ impl Sheet {
         let x = self.next_x();
         let y = self.next_y();
         let near = neighbours_of(samples, width, n, x, y);
-        let own = cut_at(original, width, n, x, y);
+        let own = cut_samples(original, width, n, x, y);
         let light = light_at(texture, width, n, x, y);
         let border = 4 * n;
         let block = n * n;

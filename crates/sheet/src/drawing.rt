@@ -1,33 +1,50 @@
-// Drawing a record: its predicted block, written in its place.
+// Drawing a record: its predicted block, put in its place.
 ghost use mathlib.Core.Path.{_≡_};
 ghost use mathlib.Core.Bool.{true};
 ghost use mathlib.Core.List.{[]};
 ghost use Prim.Native.Nat.{_*_};
-ghost use lib.ListN.{length};
+ghost use lib.ListN.{length, take};
 ghost use Rattle.arith.specs.Checks.{lent};
+ghost use Rattle.depth_table.specs.Table.{someValue};
 ghost use Rattle.pattern.specs.Contour.{contourOf};
-ghost use Rattle.pattern.specs.Size.{sizeOk, wordOk};
+ghost use Rattle.pattern.specs.Size.{sizeOk};
 ghost use Rattle.pattern.specs.Words.{patternNumber, patternsOf};
-ghost use Rattle.prediction.specs.Answer.{predictRefusal};
 ghost use Rattle.prediction.specs.Block.{predicted};
 ghost use Rattle.choice.specs.Answer.{chooseAnswer, chooseTold};
 ghost use Rattle.choice.specs.Case.{caseOf};
 ghost use Rattle.choice.specs.Record.{predictionOf};
 ghost use Rattle.sheet_grid.specs.Samples.{written};
-ghost use Rattle.sheet.specs.Place.{Site, Lit, drawRefusal};
+ghost use Rattle.sheet.specs.Place.{Site, Lit, Drawable, drawRefusal};
 ghost use Rattle.sheet.specs.Compose.{chosenBlock};
-use crate::samples::write_at;
+use crate::samples::put;
+use block::CAPACITY;
 use choice::Choice;
 use pattern::Contoured;
 use pattern::Pattern;
 use pattern::SAMPLES;
-use pattern::check;
-use prediction::Predicted;
 use record::Meaning;
 use record::Record;
 use record::meaning_of;
 
-// Writes the predicted block of a pattern at (x, y), or answers the number of prediction's refusal.
+// The predicted block of a pattern, its samples row by row at the front of an array.
+fn predicted_samples(
+    n: usize,
+    p: Pattern,
+    near: &[u8],
+    table: &[u8],
+    off0: i32,
+    off1: i32,
+) -> [u8; SAMPLES]
+    requires { ⌜ (sizeOk n ≡ true) × (length (now near) ≡ 4 * n) × (Drawable n (patternNumber p) (now table) off0 off1) ⌝ }
+    ensures { λ r. ⌜ take (n * n) r ≡ predicted n (patternNumber p) (now (near .entry)) (now (table .entry)) off0 off1 ⌝ }
+{
+    let count = n * n;
+    let mut own = [0u8; SAMPLES];
+    prediction::predict_from_values(n, p, near, table, off0, off1, &mut own[..count]);
+    own
+}
+
+// Puts the predicted block of a pattern at (x, y).
 fn draw_pattern(
     samples: &mut [u8],
     width: usize,
@@ -39,23 +56,16 @@ fn draw_pattern(
     table: &[u8],
     off0: i32,
     off1: i32,
-) -> u8
-    requires { ⌜ (Site n width (length (now samples)) x y (length (now near))) × (wordOk n (patternNumber p) ≡ true) ⌝ }
-    ensures number { λ t. ⌜ t ≡ predictRefusal n (patternNumber p) (4 * n) (now (table .entry)) off0 off1 (n * n) ⌝ }
-    ensures left { λ t. let w = patternNumber p in
-        let block = predicted n w (now (near .entry)) (now (table .entry)) off0 off1 in
-        let number = predictRefusal n w (4 * n) (now (table .entry)) off0 off1 (n * n) in
-        ⌜ now (samples .exit) ≡ lent number (written n width x y block (now (samples .entry))) (now (samples .entry)) ⌝ }
+)
+    requires { ⌜ (Site n width (length (now samples)) x y (length (now near))) × (Drawable n (patternNumber p) (now table) off0 off1) ⌝ }
+    ensures { λ _. let drawn = predicted n (patternNumber p) (now (near .entry)) (now (table .entry)) off0 off1 in
+        ⌜ now (samples .exit) ≡ written n width x y drawn (now (samples .entry)) ⌝ }
 {
+    let own = predicted_samples(n, p, near, table, off0, off1);
     let count = n * n;
-    let mut block = [0u8; SAMPLES];
-    match prediction::predict(n, p, near, table, off0, off1, &mut block[..count]) {
-        Predicted::Marks(_) => {
-            write_at(samples, width, n, x, y, &block);
-            0
-        }
-        Predicted::Refused(number) => number,
-    }
+    let mut b = [[0u8; CAPACITY]; CAPACITY];
+    block::block_of(n, &own[..count], &mut b);
+    put(samples, width, n, x, y, b);
 }
 
 // The contour of a block's texture.
@@ -69,8 +79,8 @@ fn contour_of(n: usize, light: &[u8]) -> Pattern
     }
 }
 
-// Writes the predicted block of a record at (x, y), from its neighbours and its own texture, an empty one where none is lent; or answers
-// the number of its refusal, 3, 7, 21, 6, 5 or 4, and writes nothing.
+// Puts the predicted block of a record at (x, y), from its neighbours and its own texture, an empty one where none is lent; or answers
+// the number of its refusal, 7, 21, 6, 5 or 4, and puts nothing.
 pub(crate) fn draw(
     samples: &mut [u8],
     width: usize,
@@ -84,7 +94,8 @@ pub(crate) fn draw(
     light: &[u8],
     r: Record,
 ) -> u8
-    requires { ⌜ (Site n width (length (now samples)) x y (length (now near))) × (Lit n (length (now light))) ⌝ }
+    requires { ⌜ (Site n width (length (now samples)) x y (length (now near)))
+        × (Lit n (length (now light))) × (someValue (now table) ≡ true) ⌝ }
     ensures number { λ t.
         let C = caseOf n (patternsOf n (now (list .entry))) count (now (near .entry)) [] (now (table .entry)) 0 (now (light .entry)) in
         ⌜ t ≡ drawRefusal C r ⌝ }
@@ -96,14 +107,15 @@ pub(crate) fn draw(
     let textured = 0 < light.len();
     let off0 = r.off0;
     let off1 = r.off1;
-    match meaning_of(n, list, count, textured, r) {
-        Meaning::Listed(p) => draw_pattern(samples, width, n, x, y, near, p, table, off0, off1),
-        Meaning::Contour => {
-            let p = contour_of(n, light);
-            draw_pattern(samples, width, n, x, y, near, p, table, off0, off1)
+    let p = match meaning_of(n, list, count, textured, r) {
+        Meaning::Listed(p) => p,
+        Meaning::Contour => contour_of(n, light),
+        Meaning::Refused(number) => {
+            return number;
         }
-        Meaning::Refused(number) => check(depth_table::is_table(table), 3, number),
-    }
+    };
+    draw_pattern(samples, width, n, x, y, near, p, table, off0, off1);
+    0
 }
 
 // Chooses the record of least cost for a block and draws it at (x, y), from the same neighbours and texture; or the refusal of the choice,
@@ -122,7 +134,8 @@ pub(crate) fn choose_at(
     reach: u32,
     light: &[u8],
 ) -> Choice
-    requires { ⌜ (Site n width (length (now samples)) x y (length (now near))) × (Lit n (length (now light))) ⌝ }
+    requires { ⌜ (Site n width (length (now samples)) x y (length (now near)))
+        × (Lit n (length (now light))) × (someValue (now table) ≡ true) ⌝ }
     ensures answered { λ t. let l = patternsOf n (now (list .entry)) in
         let C = caseOf n l count (now (near .entry)) (now (own .entry)) (now (table .entry)) reach (now (light .entry)) in
         ⌜ chooseTold t ≡ chooseAnswer C ⌝ }

@@ -1,37 +1,77 @@
-// One block of a sheet's samples: written, and cut out.
+// One block of a sheet's samples: cut out, and put.
 ghost use mathlib.Core.Path.{_≡_};
-ghost use Prim.Native.Nat.{_*_};
-ghost use lib.ListN.{length};
-ghost use Rattle.pattern.specs.Size.{greatestSamples};
+ghost use mathlib.Core.Bool.{true};
+ghost use Prim.Native.Nat.{_+_, _*_, _≤_};
+ghost use lib.ListN.{length, getD, take};
+ghost use Rattle.arith.specs.Lists.{upto};
+ghost use Rattle.block.specs.Block as rows;
+ghost use Rattle.block.specs.Block.{capacity};
+ghost use Rattle.pattern.specs.Size.{sizeOk};
 ghost use Rattle.sheet_grid.specs.Grid.{Inside};
-ghost use Rattle.sheet_grid.specs.Samples.{written, cut, filled};
+ghost use Rattle.sheet_grid.specs.Samples as grid;
+ghost use Rattle.sheet_grid.specs.Samples.{written, cutBlock, withRow};
+use block::Block;
+use block::CAPACITY;
 use pattern::SAMPLES;
 
-// Writes the first n * n samples of a block, row by row, at (x, y) of a sheet of the given width.
-pub(crate) fn write_at(
-    samples: &mut [u8],
+// The n samples from a place on, as a row of a block.
+fn row_at(samples: &[u8], n: usize, at: usize) -> [u8; CAPACITY]
+    requires { ⌜ (n ≤ capacity) × (at + n ≤ length (now samples)) ⌝ }
+    ensures { λ r. ⌜ r ≡ upto capacity n (λ i. getD (now (samples .entry)) (at + i) 0) 0 ⌝ }
+{
+    let mut row = [0u8; CAPACITY];
+    for i in 0..n {
+        row[i] = samples[at + i];
+    }
+    row
+}
+
+// The block at (x, y) of a sheet of the given width.
+fn cut(samples: &[u8], width: usize, n: usize, x: usize, y: usize) -> Block
+    requires { ⌜ Inside n width (length (now samples)) x y ⌝ }
+    ensures { λ r. ⌜ r ≡ cutBlock n width x y (now (samples .entry)) ⌝ }
+{
+    let mut b = [[0u8; CAPACITY]; CAPACITY];
+    for r in 0..n {
+        b[r] = row_at(samples, n, (y + r) * width + x);
+    }
+    b
+}
+
+// Its samples row by row, at the front of an array.
+pub(crate) fn cut_samples(
+    samples: &[u8],
     width: usize,
     n: usize,
     x: usize,
     y: usize,
-    block: &[u8; SAMPLES],
-)
-    requires { ⌜ Inside n width (length (now samples)) x y ⌝ }
-    ensures { λ _. ⌜ now (samples .exit) ≡ written n width x y (now (block .entry)) (now (samples .entry)) ⌝ }
+) -> [u8; SAMPLES]
+    requires { ⌜ (sizeOk n ≡ true) × (Inside n width (length (now samples)) x y) ⌝ }
+    ensures { λ r. ⌜ take (n * n) r ≡ grid.cut n width x y (now (samples .entry)) ⌝ }
 {
-    for k in 0..n * n {
-        samples[(y + k / n) * width + (x + k % n)] = block[k];
+    let b = cut(samples, width, n, x, y);
+    let count = n * n;
+    let mut own = [0u8; SAMPLES];
+    block::write_block(n, b, &mut own[..count]);
+    own
+}
+
+// Puts the first n samples of a row from a place on.
+fn put_row(samples: &mut [u8], n: usize, at: usize, row: [u8; CAPACITY])
+    requires { ⌜ (n ≤ capacity) × (at + n ≤ length (now samples)) ⌝ }
+    ensures { λ _. ⌜ now (samples .exit) ≡ withRow n at row (now (samples .entry)) ⌝ }
+{
+    for i in 0..n {
+        samples[at + i] = row[i];
     }
 }
 
-// The block at (x, y) of a sheet of the given width: n * n samples, row by row, then 0.
-pub(crate) fn cut_at(samples: &[u8], width: usize, n: usize, x: usize, y: usize) -> [u8; SAMPLES]
+// Puts a block at (x, y) of a sheet of the given width.
+pub(crate) fn put(samples: &mut [u8], width: usize, n: usize, x: usize, y: usize, b: Block)
     requires { ⌜ Inside n width (length (now samples)) x y ⌝ }
-    ensures { λ r. ⌜ r ≡ filled greatestSamples (n * n) (cut n width x y (now (samples .entry))) ⌝ }
+    ensures { λ _. ⌜ now (samples .exit) ≡ written n width x y (rows.samplesOf n b) (now (samples .entry)) ⌝ }
 {
-    let mut block = [0u8; SAMPLES];
-    for k in 0..n * n {
-        block[k] = samples[(y + k / n) * width + (x + k % n)];
+    for r in 0..n {
+        put_row(samples, n, (y + r) * width + x, b[r]);
     }
-    block
 }

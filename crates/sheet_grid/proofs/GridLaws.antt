@@ -56,6 +56,10 @@ pub sample-in : {n w samples x y : ℕ} (i r : ℕ) → Inside n w samples x y �
 sample-in {n} {w} {samples} {x} {y} i r p hi hr =
     place-in (x + i) (y + r) p (omega (arith, p .across)) (omega arith)
 
+-- a row of it ends among the sheet's samples
+pub row-in : {n w samples x y : ℕ} (r : ℕ) → Inside n w samples x y → r < n → place w x (y + r) + n ≤ samples
+row-in {n} r p hr = omega (arith, sample-in (n - 1) r p (omega (arith, p .some)) hr, p .some)
+
 -- the sheet has at least as many samples as the block's last row is far down
 pub rows-few : {n w samples x y : ℕ} → Inside n w samples x y → y + n ≤ samples
 rows-few {n} {w} {samples} {x} {y} p =

@@ -13,6 +13,7 @@ ghost use Rattle.show_text.specs.Steps.{Listing};
 ghost use Rattle.show_text.specs.Told.{shownTold};
 use crate::printing::put_refusal;
 use crate::printing::put_sheet;
+use depth_table::VALUES;
 use pattern::GREATEST_SIZE;
 use pattern::words_of;
 use record_read::FileBack;
@@ -27,7 +28,7 @@ use wedgelet::LIST_WORDS;
 use wedgelet::Listed;
 
 // The bytes of its input that `show` reads (`fileBytes`): what follows them changes nothing, by the law `first-bytes`.
-pub const FILE_BYTES: usize = 80 + 4 * 256 + 32 * MOST_BLOCKS + 1;
+pub const FILE_BYTES: usize = 80 + 4 * VALUES + 32 * MOST_BLOCKS + 1;
 
 // The bytes that are lent for the text (`textBytes`).
 pub const TEXT_BYTES: usize = 27 + 4 * MOST_SAMPLES;

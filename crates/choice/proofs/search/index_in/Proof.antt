@@ -5,13 +5,13 @@ use Rattle.arith.specs.Checks.{given}
 use Rattle.arith.proofs.CheckLaws.{given-same, given-never}
 use Rattle.depth_table.specs.Answer.{indexTold}
 use Rattle.depth_table.specs.Table.{indexOf}
-use Rattle.depth_table.proofs.LevelLaws.{nearest-given}
+use Rattle.depth_table.proofs.LevelLaws.{table-some, nearest-given}
 use Rattle.choice.proofs.search.index_in.Statement.{statement}
 use Rattle.choice.proofs.search.index_in.Tie as tie
 
 -- the index is given
 told : (c : tie.After-nearest-index) → let a = c .before .before .args in indexTold (c .nearest-index .result) ≡ given (indexOf (a .table .now) (a .d .0))
-told c = let s = c .before .before in c .nearest-index .ensures ∙ nearest-given (s .args .table .now) (s .args .d .0) (s .pre)
+told c = let s = c .before .before in c .nearest-index .ensures ∙ nearest-given (s .args .table .now) (s .args .d .0) (table-some _ (s .pre))
 
 returns : tie.Need-returns
 returns c = given-same (sym (ap indexTold (c .before .index .given .1)) ∙ told (c .before .before .before))

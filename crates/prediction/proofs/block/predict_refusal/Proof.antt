@@ -7,38 +7,38 @@ use Rattle.pattern.specs.Words.{patternNumber}
 use Rattle.pattern.proofs.SizeLaws.{size-bounds}
 use Rattle.arith.proofs.CheckLaws.{failed, checked}
 use Rattle.depth_table.specs.Offset.{offsetOk}
-use Rattle.prediction.specs.Answer.{predictRefusal}
+use Rattle.prediction.specs.Answer.{predictRefusalBy}
 use Rattle.prediction.proofs.block.predict_refusal.Statement.{statement}
 use Rattle.prediction.proofs.block.predict_refusal.Tie as tie
 
 returns : tie.Need-returns
-unfolding predictRefusal
+unfolding predictRefusalBy
 returns c =
-    let a = c .before .before .before .args in
+    let a = c .before .before .args in
     let found = failed 1 _ (sym (c .before .size-ok .ensures) ∙ not-true _ (c .if1 .taken)) in
-    let clause : 1 ≡ predictRefusal (a .n) (patternNumber (a .p)) (a .neighbours) (a .table .now) (a .off0) (a .off1) (a .samples) = found in
+    let clause : 1 ≡ predictRefusalBy (a .asked) (a .n) (patternNumber (a .p)) (a .neighbours) (a .off0) (a .off1) (a .samples) = found in
     clause
 
 lengths-ok-requires : tie.Need-lengths-ok-requires
 lengths-ok-requires c κs =
-    size-bounds (c .before .before .before .args .n) (sym (c .before .size-ok .ensures) ∙ not-false _ (c .if1 .left)) .1
+    size-bounds (c .before .before .args .n) (sym (c .before .size-ok .ensures) ∙ not-false _ (c .if1 .left)) .1
 
 returns-2 : tie.Need-returns-2
-unfolding predictRefusal
+unfolding predictRefusalBy
 returns-2 c =
     let checks = c .before .before .before in
     let judged = checks .before .before in
     let inside = judged .before .before in
-    let test = inside .before .before .before in
-    let start = test .before .before .before in
+    let test = inside .before .before in
+    let start = test .before .before in
     rw (sym (test .before .size-ok .ensures) ∙ not-false _ (test .if1 .left))
-    (checked 2 (c .check5 .ensures) (inside .before .before .lengths-ok .ensures)
-    (checked 3 (c .before .check4 .ensures) (inside .before .is-table .ensures)
+    (checked 2 (c .check5 .ensures) (inside .before .lengths-ok .ensures)
+    (checked 3 {a = start .args .asked} (c .before .check4 .ensures) refl
     (checked 5 (c .before .before .check3 .ensures) (inside .word-ok .ensures)
     (checked 4 (checks .check2 .ensures) (judged .before .offset-ok .ensures ∙ ap offsetOk (toZ-ofZ w32 _ (start .fits .off0)))
     (checked 4 (checks .before .check .ensures) (judged .offset-ok2 .ensures ∙ ap offsetOk (toZ-ofZ w32 _ (start .fits .off1))) refl)))))
 
 pub predict-refusal-spec : {M : Type 1} → statement M
 predict-refusal-spec =
-    tie.close (tie.spec (λ c κs. tt) returns lengths-ok-requires (λ c κs. tt) (λ c κs. tt) (λ c κs. tt) (λ c κs. tt) (λ c κs. tt)
+    tie.close (tie.spec (λ c κs. tt) returns lengths-ok-requires (λ c κs. tt) (λ c κs. tt) (λ c κs. tt) (λ c κs. tt)
     (λ c κs. tt) (λ c κs. tt) (λ c κs. tt) (λ c κs. tt) returns-2)

@@ -14,7 +14,7 @@ side-depth-requires : tie.Need-side-depth-requires
 side-depth-requires c κs = let p = c .before .before .pre in (p .some, p .high, p .long)
 
 level-requires : tie.Need-level-requires
-level-requires c κs = let d = c .before .before .before .before in (d .pre .sound, ap offsetOk (toZ-ofZ w32 _ (d .fits .off1)) ∙ d .pre .second)
+level-requires c κs = let d = c .before .before .before .before in (d .pre .valued, ap offsetOk (toZ-ofZ w32 _ (d .fits .off1)) ∙ d .pre .second)
 
 returns : tie.Need-returns
 returns c =
@@ -26,7 +26,7 @@ returns c =
     (toZ-ofZ w32 _ (start .fits .off1) ∙ off))
 
 level-requires-2 : tie.Need-level-requires-2
-level-requires-2 c κs = let d = c .before .before .before .before in (d .pre .sound, ap offsetOk (toZ-ofZ w32 _ (d .fits .off0)) ∙ d .pre .first)
+level-requires-2 c κs = let d = c .before .before .before .before in (d .pre .valued, ap offsetOk (toZ-ofZ w32 _ (d .fits .off0)) ∙ d .pre .first)
 
 returns-2 : tie.Need-returns-2
 returns-2 c =

@@ -1,4 +1,4 @@
--- `read_block` meets its contract: the form, then what `place` answers.
+-- `read_block` meets its contract: the form, then what `place_from_values` answers.
 use borrow.Author.Needs.{needs}
 use mathlib.Core.Path.{_≡_, sym, _∙_, ap}
 use lib.ListN.{drop}
@@ -41,7 +41,7 @@ returns-2 c =
     let d = start (found .before .before) in
     let a = d .args in
     step-next (aids d) (a .table .now) (a .samples .now) (a .r) (a .bytes .now) (d .pre .0) (found .a .given .0 .1 .0 .at) (form found)
-    (sym (ap placeTold (c .before .before .state .given .1)) ∙ p .place .ensures .0) (p .place .ensures .1)
+    (sym (ap placeTold (c .before .before .state .given .1)) ∙ p .place-from-values .ensures .0) (p .place-from-values .ensures .1)
 
 returns-3 : tie.Need-returns-3
 returns-3 c =
@@ -50,7 +50,7 @@ returns-3 c =
     let d = start (found .before .before) in
     let a = d .args in
     step-refused (aids d) (a .table .now) (a .samples .now) (a .r) (a .bytes .now) (d .pre .0) (found .a .given .0 .1 .0 .at) (form found)
-    (sym (ap placeTold (c .before .number .given .1)) ∙ p .place .ensures .0)
+    (sym (ap placeTold (c .before .number .given .1)) ∙ p .place-from-values .ensures .0)
 
 pub read-block-spec : {M : Type 1} → statement M
 read-block-spec =

@@ -5,6 +5,7 @@ use mathlib.Core.Path.{_≡_, refl, sym, ap, _∙_}
 use Prim.Native.Nat.{ℕ}
 use lib.ListN.{length}
 use Rattle.arith.proofs.CheckLaws.{checked}
+use Rattle.depth_table.specs.Table.{tableOk}
 use Rattle.pattern.specs.Words.{patternsOf}
 use Rattle.pattern.proofs.WordLaws.{length-patterns}
 use Rattle.sheet.specs.State.{startRefusal, openRefusal}
@@ -37,7 +38,7 @@ judged c =
 opening :
     (c : tie.After-open-refusal)
     → let d = c .before .before .before .before .before .before .before .before .before .before in
-    c .open-refusal .result ≡ openRefusal (d .args .self) (c .before .before .before .compose-lengths-ok .result) (d .args .table .now) 0
+    c .open-refusal .result ≡ openRefusal (d .args .self) (c .before .before .before .compose-lengths-ok .result) (tableOk (d .args .table .now)) 0
 opening c =
     let d = c .before .before .before .before .before .before .before .before .before .before in
     c .open-refusal .ensures
@@ -61,18 +62,18 @@ returns c =
 none :
     (c : tie.Else1)
     → let d = c .before .before .before .before .before .before .before .before .before .before .before in
-    openRefusal (d .args .self) (lengthsHold (d .args .self) (task d) (length (d .args .samples .now)) (records d)) (d .args .table .now) 0 ≡ 0
+    openRefusal (d .args .self) (lengthsHold (d .args .self) (task d) (length (d .args .samples .now)) (records d)) (tableOk (d .args .table .now)) 0 ≡ 0
 none c =
     let d = c .before .before .before .before .before .before .before .before .before .before .before in
-    ap (λ (b : Bool). openRefusal (d .args .self) b (d .args .table .now) 0) (sym (judged (c .before .before .before .before)))
+    ap (λ (b : Bool). openRefusal (d .args .self) b (tableOk (d .args .table .now)) 0) (sym (judged (c .before .before .before .before)))
     ∙ sym (opening (c .before))
     ∙ c .if1 .left
 
 accepted :
     (c : tie.Else1)
     → let d = c .before .before .before .before .before .before .before .before .before .before .before in
-    Opened (d .args .self) (lengthsHold (d .args .self) (task d) (length (d .args .samples .now)) (records d)) (d .args .table .now)
-accepted c = let d = c .before .before .before .before .before .before .before .before .before .before .before in opened (d .args .self) (lengthsHold (d .args .self) (task d) (length (d .args .samples .now)) (records d)) (d .args .table .now) 0 (none c) .0
+    Opened (d .args .self) (lengthsHold (d .args .self) (task d) (length (d .args .samples .now)) (records d)) (tableOk (d .args .table .now))
+accepted c = let d = c .before .before .before .before .before .before .before .before .before .before .before in opened (d .args .self) (lengthsHold (d .args .self) (task d) (length (d .args .samples .now)) (records d)) (tableOk (d .args .table .now)) 0 (none c) .0
 
 compose-missing-requires : tie.Need-compose-missing-requires
 compose-missing-requires c κs =

@@ -37,13 +37,15 @@ inside c e =
 neighbours-of-requires : tie.Need-neighbours-of-requires
 neighbours-of-requires c κs = inside (c .before) (c .before .before .before .before .before .before .before .before .before .before .pre .0 .lengths .whole)
 
-cut-at-requires : tie.Need-cut-at-requires
-cut-at-requires c κs = inside (c .before .before) (c .before .before .before .before .before .before .before .before .before .before .before .pre .1)
+cut-samples-requires : tie.Need-cut-samples-requires
+cut-samples-requires c κs =
+    let d = c .before .before .before .before .before .before .before .before .before .before .before in
+    (d .pre .0 .is-open .size, inside (c .before .before) (d .pre .1))
 
 light-at-requires : tie.Need-light-at-requires
 light-at-requires c κs =
     let d = c .before .before .before .before .before .before .before .before .before .before .before .before in
-    λ h. inside (c .before .before .before) (texture-whole (d .args .self) (d .pre .0 .lengths) h)
+    record { size = d .pre .0 .is-open .size; inside = λ h. inside (c .before .before .before) (texture-whole (d .args .self) (d .pre .0 .lengths) h) }
 
 mul-border : tie.Need-mul-border
 mul-border c = omega (arith, c .before .before .before .before .before .before .before .before .before .before .before .before .before .pre .0 .is-open .high)
@@ -57,9 +59,9 @@ border c =
     let l : length (c .neighbours-of .result) ≡ greatestNeighbours = search needs in
     omega (arith, c .before .before .before .before .before .before .before .before .before .before .before .pre .0 .is-open .high)
 
-own-room : (c : tie.After-cut-at) → let n = c .before .before .before .before .before .before .before .before .before .before .before .before .args .self .n in n * n ≤ length (c .cut-at .result)
+own-room : (c : tie.After-cut-samples) → let n = c .before .before .before .before .before .before .before .before .before .before .before .before .args .self .n in n * n ≤ length (c .cut-samples .result)
 own-room c =
-    let l : length (c .cut-at .result) ≡ greatestSamples = search needs in
+    let l : length (c .cut-samples .result) ≡ greatestSamples = search needs in
     omega (arith, square-256 (c .before .before .before .before .before .before .before .before .before .before .before .before .pre .0 .is-open .high))
 
 light-room : (c : tie.After-lent-part) → c .lent-part .result ≤ length (c .before .light-at .result)
@@ -94,6 +96,7 @@ choose-at-requires c κs =
     let d = y .before .before .before .before .before .before .before .before .before in (
       record { size = d .pre .0 .is-open .size; inside = inside y (d .pre .0 .lengths .whole); bordered = length-take-le _ _ (border near) },
       part-lit (d .args .self) (d .args .texture .now) _ (part .lent-part .ensures) (light-room part),
+      d .pre .0 .valued,
     )
 
 returns : tie.Need-returns
@@ -109,13 +112,13 @@ returns c =
     let row = y .next-y .ensures in
     choose-next S (task d) (d .args .samples .now) column row
     (near-next S o column row (d .args .samples .now) (near .neighbours-of .ensures))
-    (own-next S o column row (d .args .original .now) (part .before .before .cut-at .ensures))
-    (light-next S o column row (d .args .texture .now) (part .before .light-at .ensures) (part .lent-part .ensures))
+    (own-next S o column row (d .args .original .now) _ (part .before .before .cut-samples .ensures))
+    (light-next S o column row (d .args .texture .now) _ (part .before .light-at .ensures) (part .lent-part .ensures))
     (chosen .choose-at .ensures .0)
     (chosen .choose-at .ensures .1)
 
 pub compose-next-spec : {M : Type 1} → statement M
 compose-next-spec =
-    tie.close (tie.spec (λ c. search needs) (λ c. search needs) next-x-requires next-y-requires neighbours-of-requires cut-at-requires
+    tie.close (tie.spec (λ c. search needs) (λ c. search needs) next-x-requires next-y-requires neighbours-of-requires cut-samples-requires
     light-at-requires mul-border mul-block (λ c κs. tt) array-share-prefix-near slice-aggregate-choose-at array-share-prefix-own
     slice-aggregate-choose-at-2 array-share-prefix-light slice-aggregate-choose-at-3 choose-at-requires (λ c. search needs) returns)

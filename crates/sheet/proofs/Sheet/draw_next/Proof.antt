@@ -43,7 +43,9 @@ neighbours-of-requires : tie.Need-neighbours-of-requires
 neighbours-of-requires c κs = inside (c .before)
 
 light-at-requires : tie.Need-light-at-requires
-light-at-requires c κs = lit (c .before .before)
+light-at-requires c κs =
+    let d : tie.Start = search needs in
+    record { size = d .pre .is-open .size; inside = lit (c .before .before) }
 
 mul-border : tie.Need-mul-border
 mul-border c = omega (arith, c .before .before .before .before .before .before .before .before .before .before .before .pre .is-open .high)
@@ -83,6 +85,7 @@ draw-requires c κs =
     let d = y .before .before .before .before .before .before .before .before in (
       record { size = d .pre .is-open .size; inside = inside y; bordered = length-take-le _ _ (border near) },
       part-lit (d .args .self) (d .args .texture .now) _ (part .lent-part .ensures) (light-room part),
+      d .pre .valued,
     )
 
 returns : tie.Need-returns
@@ -98,7 +101,7 @@ returns c =
     let row = y .next-y .ensures in
     draw-next S o (material d) (d .args .samples .now) (d .args .r) column row
     (near-next S o column row (d .args .samples .now) (near .neighbours-of .ensures))
-    (light-next S o column row (d .args .texture .now) (part .before .light-at .ensures) (part .lent-part .ensures))
+    (light-next S o column row (d .args .texture .now) _ (part .before .light-at .ensures) (part .lent-part .ensures))
     (drawn .draw .ensures .0)
     (drawn .draw .ensures .1)
 

@@ -1,22 +1,25 @@
 -- `draw` meets its contract, by what the record means.
 use borrow.Author.Needs.{needs}
 use mathlib.Core.List.{[]}
-use mathlib.Core.Path.{_≡_, refl, sym, ap, _∙_}
+use mathlib.Core.Logic.{⊎-elim}
+use mathlib.Core.Path.{_≡_, sym, ap, _∙_}
 use mir.Syntax.{w32}
 use mir.Val.{SFits}
 use mir.ValLaws.{toZ-ofZ}
-use Rattle.arith.specs.Checks.{given}
-use Rattle.arith.proofs.CheckLaws.{checked, lent-refused}
 use Rattle.pattern.specs.Words.{patternNumber, patternsOf}
 use Rattle.choice.specs.Case.{Case, caseOf}
 use Rattle.choice.specs.Record.{patternOf}
-use Rattle.record.specs.Meaning.{listed, contour}
 use Rattle.record.specs.Told.{meaningTold}
-use Rattle.sheet.proofs.MeaningLaws.{meaning, case-listed, case-contour, case-fits, case-refused, case-lit, case-drawn}
+use Rattle.sheet.specs.Place.{drawRefusal}
+use Rattle.sheet.proofs.DrawLaws.{drawable-as}
+use Rattle.sheet.proofs.MeaningLaws.{case-named, case-listed, case-contour, case-lit, case-drawable, case-drawn, case-refused}
 use Rattle.sheet.proofs.drawing.draw.Statement.{statement}
 use Rattle.sheet.proofs.drawing.draw.Tie as tie
 
--- the case that the record is drawn for
+-- what comes before the record's meaning, and the case that it is drawn for
+abbrev start : tie.After-meaning-of → tie.Start
+start c = c .before .before .before .before .before .before .before .before
+
 abbrev case : tie.Start → Case
 case d =
     caseOf (d .args .n) (patternsOf (d .args .n) (d .args .list .now)) (d .args .count) (d .args .near .now) [] (d .args .table .now) 0 (d .args .light .now)
@@ -28,69 +31,57 @@ fits0 d = search needs
 fits1 : (d : tie.Start) → SFits w32 (d .args .r .off1)
 fits1 d = search needs
 
--- a pattern of the list
-in-list : (c : tie.After-p) → let d = c .before .before .before .before .before .before .before .before .before .before in given (listed (patternNumber (c .p .given .0 .0))) ≡ meaning (case d) (d .args .r)
-in-list c = sym (ap meaningTold (c .p .given .1)) ∙ c .before .before .meaning-of .ensures
-
-draw-pattern-requires : tie.Need-draw-pattern-requires
-draw-pattern-requires c κs =
-    let q = c .before .before in
-    let d = q .before .before .before .before .before .before .before .before .before .before in
-    (d .pre .0, rw (case-listed (case d) (d .args .r) (in-list q)) (case-fits (case d) (d .args .r) (in-list q)))
-
--- the contour
-in-contour : (c : tie.After-enum-told) → let d = c .before .before .before .before .before .before .before .before .before .before in given contour ≡ meaning (case d) (d .args .r)
-in-contour c = sym (ap meaningTold (c .enum-told .given .1)) ∙ c .before .before .meaning-of .ensures
-
 contour-of-requires : tie.Need-contour-of-requires
 contour-of-requires c κs =
-    let d = c .before .before .before .before .before .before .before .before .before .before in
-    (d .pre .0 .size, case-lit (case d) (d .args .r) (in-contour c) (d .pre .1))
-
--- its pattern
-outline : (c : tie.After-contour-of) → let d = c .before .before .before .before .before .before .before .before .before .before .before in patternNumber (c .contour-of .result) ≡ patternOf (case d) (d .args .r)
-outline c = let d = c .before .before .before .before .before .before .before .before .before .before .before in c .contour-of .ensures ∙ case-contour (case d) (d .args .r) (in-contour (c .before))
-
-draw-pattern-requires-2 : tie.Need-draw-pattern-requires-2
-draw-pattern-requires-2 c κs =
-    let q = c .before in
-    let d = q .before .before .before .before .before .before .before .before .before .before .before in
-    (d .pre .0, rw (outline q) (case-fits (case d) (d .args .r) (in-contour (q .before))))
+    let m = c .before .before in
+    let d = start m in
+    (d .pre .0 .size, case-lit (case d) (d .args .r) (sym (ap meaningTold (c .enum-told .given .1)) ∙ m .meaning-of .ensures) (d .pre .1))
 
 returns : tie.Need-returns
 returns c =
-    let q = c .before .before .before .before .before in
-    let d = q .before .before .before .before .before .before .before .before .before .before in
+    let q = c .before in
+    let m = q .before .before in
+    let d = start m in
     let a = d .args in
-    case-drawn (case d) (a .r) (a .width) (a .x) (a .y) (a .samples .now) (d .pre .0 .size) (in-list q)
-    (case-listed (case d) (a .r) (in-list q))
-    (toZ-ofZ w32 (a .r .off0) (fits0 d))
-    (toZ-ofZ w32 (a .r .off1) (fits1 d))
-    (c .before .before .draw-pattern .ensures .0)
-    (c .before .before .draw-pattern .ensures .1)
+    case-refused (case d) (a .r) (a .width) (a .x) (a .y) (a .samples .now) (sym (ap meaningTold (q .number .given .1)) ∙ m .meaning-of .ensures)
+
+-- a record that is not refused, and its pattern
+named :
+    (c : tie.At-match-came)
+    → let d = start (c .before) in (drawRefusal (case d) (d .args .r) ≡ 0) × (patternNumber (c .match .p) ≡ patternOf (case d) (d .args .r))
+named c =
+    let d = start (c .before) in
+    let told = c .before .meaning-of .ensures in
+    ⊎-elim
+    (λ w.
+    let e = sym (ap meaningTold (w .1 .given .1)) ∙ told in
+    (case-named (case d) (d .args .r) e, ap patternNumber (w .3) ∙ case-listed (case d) (d .args .r) e))
+    (λ w.
+    let e = sym (ap meaningTold (w .1 .given .1)) ∙ told in
+    (case-named (case d) (d .args .r) e, ap patternNumber (w .3) ∙ w .2 .ensures ∙ case-contour (case d) (d .args .r) e))
+    (c .match .came)
+
+draw-pattern-requires : tie.Need-draw-pattern-requires
+draw-pattern-requires c κs =
+    let m = c .before in
+    let d = start (m .before) in
+    let q = named m in (
+      d .pre .0,
+      drawable-as (sym (toZ-ofZ w32 (d .args .r .off0) (fits0 d))) (sym (toZ-ofZ w32 (d .args .r .off1) (fits1 d)))
+          (case-drawable (case d) (d .args .r) (q .0) (q .1) (d .pre .2)),
+    )
 
 returns-2 : tie.Need-returns-2
 returns-2 c =
-    let q = c .before .before .before .before in
-    let d = q .before .before .before .before .before .before .before .before .before .before .before in
+    let p = c .before .before in
+    let m = p .before .before in
+    let d = start (m .before) in
     let a = d .args in
-    case-drawn (case d) (a .r) (a .width) (a .x) (a .y) (a .samples .now) (d .pre .0 .size) (in-contour (q .before))
-    (outline q)
-    (toZ-ofZ w32 (a .r .off0) (fits0 d))
-    (toZ-ofZ w32 (a .r .off1) (fits1 d))
-    (c .before .before .draw-pattern2 .ensures .0)
-    (c .before .before .draw-pattern2 .ensures .1)
-
-returns-3 : tie.Need-returns-3
-returns-3 c =
-    let q = c .before .before .before in
-    let d = q .before .before .before .before .before .before .before .before .before .before in
-    let k = case-refused (case d) (d .args .r) (sym (ap meaningTold (q .number .given .1)) ∙ q .before .before .meaning-of .ensures)
-    (checked 3 (c .check .ensures) (c .before .is-table .ensures) refl) in
-    (k .0, lent-refused _ _ (d .args .samples .now) (k .1))
+    let q = named m in
+    case-drawn (case d) (a .r) (q .0) (a .width) (a .x) (a .y) (a .samples .now) (q .1)
+    (toZ-ofZ w32 (a .r .off0) (fits0 d)) (toZ-ofZ w32 (a .r .off1) (fits1 d)) (p .draw-pattern .ensures)
 
 pub draw-spec : {M : Type 1} → statement M
 draw-spec =
-    tie.close (tie.spec (λ c κs. tt) (λ c. search needs) draw-pattern-requires (λ c. search needs) contour-of-requires
-    draw-pattern-requires-2 (λ c. search needs) (λ c κs. tt) (λ c κs. tt) (λ c. search needs) returns (λ c. search needs) returns-2
-    returns-3)
+    tie.close (tie.spec (λ c κs. tt) (λ c. search needs) (λ c. search needs) contour-of-requires (λ c. search needs) returns
+    draw-pattern-requires (λ c. search needs) returns-2)

@@ -6,11 +6,11 @@ use Rattle.sheet.proofs.placing.light_at.Tie as tie
 returns : tie.Need-returns
 returns c = λ h. absurd (omega (arith, c .if1 .taken))
 
-cut-at-requires : tie.Need-cut-at-requires
-cut-at-requires c κs = c .before .before .pre (omega (arith, c .if1 .left))
+cut-samples-requires : tie.Need-cut-samples-requires
+cut-samples-requires c κs = let p = c .before .before .pre in (p .size, p .inside (omega (arith, c .if1 .left)))
 
 returns-2 : tie.Need-returns-2
-returns-2 c = λ h. c .cut-at .ensures
+returns-2 c = λ h. c .cut-samples .ensures
 
 pub light-at-spec : {M : Type 1} → statement M
-light-at-spec = tie.close (tie.spec returns cut-at-requires returns-2)
+light-at-spec = tie.close (tie.spec returns cut-samples-requires returns-2)
