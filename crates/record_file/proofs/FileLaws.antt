@@ -1,5 +1,5 @@
 -- Both inverse laws of the whole text: reading gives what was printed, and what is read was printed so.
-use Prim.Native.Nat.{ℕ, _+_, _≤_, _<_}
+use Prim.Native.Nat.{ℕ, _+_, _*_, _≤_, _<_}
 use mathlib.Core.Path.{_≡_, refl, ap, sym, subst, _∙_}
 use mathlib.Core.Bool.{true, _&&_}
 use mathlib.Core.List.{List, [], _++_, append-nil}
@@ -20,10 +20,13 @@ use Rattle.record.specs.declared.Record.{Record}
 use Rattle.record_text.specs.Printable.{SizePrintable, RecordPrintable}
 use Rattle.record_text.specs.Parsed.{exactly}
 use Rattle.record_text.specs.Line.{sizeTitle, depthTitle, recordTitle, sizeLine, sizeText, valueLine, valueText, recordLine, recordText}
-use Rattle.record_text.specs.Lines.{read, noMeaning, texts, Each}
+use Rattle.record_text.specs.Lines.{read, noMeaning, manyLines, texts, Each}
+use Rattle.record_text.specs.Items.{Item}
 use Rattle.record_text.proofs.ParsedLaws.{exactly-reads, exactly-wrote}
 use Rattle.record_text.proofs.LineLaws.{size-line, value-line, record-line}
-use Rattle.record_text.proofs.LinesLaws.{line-read, line-parts, lines-read, lines-parts, ended-parts, many-reads, many-wrote}
+use Rattle.record_text.proofs.LinesLaws.{line-read, line-parts, lines-read, lines-parts, ended-parts}
+use Rattle.record_text.proofs.ItemLaws.{many-item}
+use Rattle.record_text.proofs.LengthLaws.{value-le, record-le}
 use Rattle.record.specs.Record.{noRecord}
 use Rattle.record_file.specs.Text.{sizeFieldsOf, fileText}
 use Rattle.record_file.specs.Reading.{File, fileOf, Aids, sizeChecks, sizeMeaning, valueMeaning, lowAfter, recordMeaning, unchanged}
@@ -74,6 +77,18 @@ size-small texture z h =
 size-printable : (z : SizeFields) → SizeSmall z → SizePrintable z
 size-printable z s = (omega (arith, s .n), (omega (arith, s .width), (omega (arith, s .height), (omega (arith, s .values), tt))))
 
+-- ---- the values, and the records, as items: at most 6 bytes a value, and 26 a record
+
+pub value-item :
+    (m k : ℕ) → Item (λ low s. manyLines valueLine valueMeaning lowAfter m k low s) (texts valueText) (λ low l. (length l ≡ m) × Each SoundValue lowAfter low l) (6 * m)
+value-item = many-item 6 value-line value-le valueMeaning lowAfter
+
+pub record-item :
+    (n : ℕ) (A : Aids) (m k : ℕ)
+    → Item (λ c s. manyLines recordLine (recordMeaning n A) unchanged m k c s) (texts recordText)
+    (λ c l. (length l ≡ m) × Each (λ c r. RecordPrintable r × (recordMeaning n A c r ≡ 0)) unchanged c l) (26 * m)
+record-item n A = many-item 26 record-line record-le (recordMeaning n A) unchanged
+
 -- ---- what is printed is read
 
 module _ (A : Aids) (F : File) (few : A .count (F .n) ≤ 9999) (ok : FileSound A F) where
@@ -88,8 +103,7 @@ module _ (A : Aids) (F : File) (few : A .count (F .n) ≤ 9999) (ok : FileSound 
   last-read : lastLines (F .n) A (blocksIn header) (5 + length (F .table)) (texts recordText (F .records)) ≡ read (F .records) []
   last-read =
       ap (λ (s : List ℕ). lastLines (F .n) A (blocksIn header) (5 + length (F .table)) s) (sym (append-nil (texts recordText (F .records))))
-      ∙ lines-read _
-      (many-reads recordLine (recordMeaning (F .n) A) unchanged record-line (blocksIn header) (5 + length (F .table)) tt (F .records) [] (ok .whole) sound-records)
+      ∙ lines-read _ (record-item (F .n) A (blocksIn header) (5 + length (F .table)) .reads tt (F .records) [] (ok .whole, sound-records))
 
   head-read : (s : List ℕ) → headLines (length (A .texture)) (sizeTitle ++ (sizeText header ++ (depthTitle ++ s))) ≡ read header s
   head-read s =
@@ -103,9 +117,7 @@ module _ (A : Aids) (F : File) (few : A .count (F .n) ≤ 9999) (ok : FileSound 
       → frontLines (length (A .texture)) (sizeTitle ++ (sizeText header ++ (depthTitle ++ (texts valueText (F .table) ++ (recordTitle ++ s))))) ≡ read (header, F .table) s
   front-read s =
       lines-read _ (head-read (texts valueText (F .table) ++ (recordTitle ++ s)))
-      ∙ lines-read _
-      (many-reads valueLine valueMeaning lowAfter value-line (length (F .table)) 4 0 (F .table) (recordTitle ++ s) refl
-      (values-sound (F .table) 0 (ok .values) (ok .rises)))
+      ∙ lines-read _ (value-item (length (F .table)) 4 .reads 0 (F .table) (recordTitle ++ s) (refl, values-sound (F .table) 0 (ok .values) (ok .rises)))
       ∙ line-read (4 + length (F .table)) noMeaning _ (exactly-reads recordTitle s) refl
 
   pub file-reads : fileLines A (textOf F) ≡ read F []
@@ -177,7 +189,7 @@ front-parts texture s z table t q =
     let p5 = line-parts (4 + h .value .values) noMeaning _ (exactly recordTitle (p4 .rest)) (z, table) t (p4 .then) in
     let z′ = same-read (p5 .then) in
     let w2 = size-line .wrote (p2 .value) (p1 .rest) (p2 .rest) (p2 .form) in
-    let w4 = many-wrote valueLine valueMeaning lowAfter value-line (h .value .values) 4 0 (p4 .value) (h .rest) (p4 .rest) (p4 .first) in
+    let w4 = value-item (h .value .values) 4 .wrote 0 (p4 .value) (h .rest) (p4 .rest) (p4 .first) in
     let ez : p2 .value ≡ z = h′ .0 ∙ ap (λ (f : SizeFields × List ℕ). f .0) (z′ .0) in
     let et : p4 .value ≡ table = ap (λ (f : SizeFields × List ℕ). f .1) (z′ .0) in
     record {
@@ -191,8 +203,8 @@ front-parts texture s z table t q =
       e4 = h′ .1 ∙ w4 .0 ∙ ap (λ (y : List ℕ). texts valueText y ++ p4 .rest) et;
       e5 = exactly-wrote recordTitle (p4 .rest) (p5 .rest) (p5 .value) (p5 .form) ∙ ap (λ (y : List ℕ). recordTitle ++ y) (z′ .1);
       size = ap (sizeMeaning texture) (sym ez) ∙ p2 .sound;
-      count = ap length (sym et) ∙ w4 .1 ∙ ap (λ (f : SizeFields × List ℕ). f .0 .values) (z′ .0);
-      each = subst (Each SoundValue lowAfter 0) et (w4 .2);
+      count = ap length (sym et) ∙ w4 .1 .0 ∙ ap (λ (f : SizeFields × List ℕ). f .0 .values) (z′ .0);
+      each = subst (Each SoundValue lowAfter 0) et (w4 .1 .1);
     }
 
 pub file-wrote : (A : Aids) (F : File) (s t : List ℕ) → fileLines A s ≡ read F t → FileRead A F s t
@@ -208,11 +220,11 @@ file-wrote A F s t q =
     let e = ended-parts (5 + z .values + m) (r .value) (l .value) (r .rest) (l .rest) (r .then) in
     let g = same-read (l .then) in
     let eF : fileOf (z .n) (z .width) (z .height) table (r .value) ≡ F = ap (fileOf (z .n) (z .width) (z .height) table) (e .0) ∙ g .0 in
-    let w = many-wrote recordLine (recordMeaning (z .n) A) unchanged record-line m (5 + z .values) tt (r .value) (f .rest) (r .rest) (r .first) in
+    let w = record-item (z .n) A m (5 + z .values) .wrote tt (r .value) (f .rest) (r .rest) (r .first) in
     record {
       text =
           join A F z table (r .value) s (p .s1) (p .s2) (p .s3) (p .s4) (f .rest) (r .rest) (p .e1) (p .e2) (p .e3) (p .e4) (p .e5) (w .0) (e .1)
           (p .count) eF;
       nothing-left = sym (g .1) ∙ e .2;
-      sound = sound-as A F z table (r .value) (p .size) (p .count) (p .each) (w .1) (w .2) eF;
+      sound = sound-as A F z table (r .value) (p .size) (p .count) (p .each) (w .1 .0) (w .1 .1) eF;
     }

@@ -56,6 +56,10 @@ pub line-le : (l : List ℤ) → length (lineText l) ≤ 7 * length l
 line-le [] = omega arith
 line-le (z ∷ l) = omega (arith, length-append (signedText (endOf l) z) (lineText l), signed-le (endOf l) z, line-le l)
 
+pub value-le : (v : ℕ) → length (valueText v) ≤ 6
+unfolding valueText
+value-le v = number-le 10 v
+
 pub size-le : (h : SizeFields) → length (sizeText h) ≤ 24
 unfolding sizeText
 size-le h =

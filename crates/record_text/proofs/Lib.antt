@@ -9,4 +9,5 @@ pub mod LineSteps
 pub mod LengthLaws
 pub mod TextSteps
 pub mod LinesLaws
+pub mod ItemLaws
 pub mod LoopLaws

@@ -8,4 +8,5 @@ pub mod Line
 pub mod Printable
 pub mod Told
 pub mod Lines
+pub mod Items
 pub mod Examples

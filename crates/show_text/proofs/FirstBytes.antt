@@ -6,25 +6,23 @@ use native.Mathlib.Decide.{decLt}
 use native.Mathlib.Omega.{arith}
 use lib.ListN.{length, take, drop, length-append, take-append-drop}
 use lib.Seq.{length-take-le, take-all}
+use Rattle.depth_table.specs.Table.{mostValues}
 use Rattle.record_text.specs.declared.fields.SizeFields.{SizeFields}
 use Rattle.record_text.specs.Parsed.{Parsed, badForm, found, andThen, exactly}
-use Rattle.record_text.specs.Line.{sizeTitle, depthTitle, recordTitle, sizeLine, valueText}
+use Rattle.record_text.specs.Line.{sizeTitle, depthTitle, recordTitle, sizeLine}
 use Rattle.record_text.specs.Lines.{Lined, refusedAt, read, noMeaning}
-use Rattle.record_text.proofs.LengthLaws.{number-le, size-le, record-le}
-use Rattle.record_text.proofs.LineLaws.{size-line, value-line, record-line}
+use Rattle.record_text.specs.Items.{extended, Within}
+use Rattle.record_text.proofs.ItemLaws.{onward, parsed-same, within-more, none-within, ended-within, line-within, lines-within}
+use Rattle.record_text.proofs.LengthLaws.{size-le}
+use Rattle.record_text.proofs.LineLaws.{size-line}
 use Rattle.record_text.proofs.ParsedLaws.{exactly-codec, exactly-wrote}
-use Rattle.record_file.specs.Reading.{File, Aids, sizeMeaning, valueMeaning, lowAfter, recordMeaning, unchanged, headLines, tableLines, frontLines, blocksIn, restLines, fileLines, readFile}
-use Rattle.record_file.proofs.FileLaws.{size-small, front-parts, file-wrote}
+use Rattle.record_file.specs.Reading.{File, Aids, sizeMeaning, headLines, tableLines, frontLines, blocksIn, restLines, fileLines, readFile}
+use Rattle.record_file.proofs.FileLaws.{size-small, value-item, record-item, front-parts, file-wrote}
 use Rattle.record_file.proofs.LineBounds.{blocks-few, head-sound}
 use Rattle.sheet_grid.specs.Grid.{mostSamples, mostBlocks}
 use Rattle.show_text.specs.Showing.{sizeBy, sizeIn, aidsFor, textBy, shownText, fileSpace, fileBytes}
-use Rattle.show_text.proofs.PrefixLaws.{onward, parsed-same, extended, Within, within-more, none-within, ended-within, line-within, lines-within, many-within}
 
 -- ---- the lines of a file take few bytes: at most 25, 24, 6, 6 for each of 256 values, 21, 26 for each of 1,024 records
-
-value-short : (v : ℕ) → length (valueText v) ≤ 6
-unfolding valueText
-value-short v = number-le 10 v
 
 size-title-length : length sizeTitle ≤ 25
 unfolding sizeTitle
@@ -44,19 +42,19 @@ head-within texture =
     line-within 2 24 (6 + 0) size-line size-le (sizeMeaning texture) _ (λ z _.
     line-within 3 6 0 (exactly-codec depthTitle) (λ _. depth-title-length) noMeaning _ (λ _ _. none-within z)))
 
-table-within : (z : SizeFields) → z .values ≤ 256 → Within (6 * 256 + (21 + 0)) (tableLines z)
+table-within : (z : SizeFields) → z .values ≤ mostValues → Within (6 * mostValues + (21 + 0)) (tableLines z)
 table-within z h =
-    lines-within {b = 6 * 256} (within-more (omega arith) (many-within 6 value-line value-short valueMeaning lowAfter (z .values) 4 0)) _ (λ s u table _.
+    lines-within {b = 6 * mostValues} (within-more (omega arith) (value-item (z .values) 4 .within 0)) _ (λ s u table _.
     line-within (4 + z .values) 21 0 (exactly-codec recordTitle) (λ _. record-title-length) noMeaning _ (λ _ _. none-within (z, table)))
 
-front-within : (texture : ℕ) → Within (25 + (24 + (6 + 0)) + (6 * 256 + (21 + 0))) (frontLines texture)
+front-within : (texture : ℕ) → Within (25 + (24 + (6 + 0)) + (6 * mostValues + (21 + 0))) (frontLines texture)
 front-within texture =
     lines-within (head-within texture) (λ z s. tableLines z s)
     (λ s u z e. table-within z (size-small texture z (head-sound texture s z u e) .values))
 
 rest-within : (A : Aids) (z : SizeFields) → blocksIn z ≤ mostBlocks → Within (26 * mostBlocks + 1) (restLines A z)
 rest-within A z h =
-    lines-within {b = 26 * mostBlocks} (within-more (omega arith) (many-within 26 record-line record-le (recordMeaning (z .n) A) unchanged (blocksIn z) (5 + z .values) tt)) _
+    lines-within {b = 26 * mostBlocks} (within-more (omega arith) (record-item (z .n) A (blocksIn z) (5 + z .values) .within tt)) _
     (λ s u l _. ended-within _ l)
 
 file-within : (A : Aids) → Within fileSpace (fileLines A)

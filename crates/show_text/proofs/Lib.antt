@@ -3,5 +3,4 @@ pub mod PrintLaws
 pub mod SampleLaws
 pub mod AidLaws
 pub mod ShowLaws
-pub mod PrefixLaws
 pub mod FirstBytes

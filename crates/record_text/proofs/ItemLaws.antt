@@ -1,4 +1,4 @@
--- Lines are short, so that what a reading finds depends only on the first bytes.
+-- Items of a file: reading and printing a line, or several, are inverse to each other, and what is read depends only on the first bytes.
 use Prim.Native.Nat.{ℕ, zero, suc, _+_, _*_, _≤_}
 use mathlib.Core.Path.{_≡_, refl, sym, _∙_, ap}
 use mathlib.Core.List.{List, [], _∷_, _++_, append-assoc}
@@ -6,11 +6,12 @@ use native.Mathlib.Nat.{mul-suc}
 use native.Mathlib.Omega.{arith}
 use lib.ListN.{length, take, drop, length-append, take-append-drop}
 use lib.Seq.{take-append-le, take-append-seam}
 use Rattle.record_text.specs.Parsed.{Parsed, Parser, badForm, found}
 use Rattle.record_text.specs.Codec.{Codec}
-use Rattle.record_text.specs.Lines.{Lined, refusedAt, read, judged, line, linesThen, manyLines, ended}
+use Rattle.record_text.specs.Lines.{Lined, refusedAt, read, judged, line, linesThen, manyLines, ended, texts, Each}
+use Rattle.record_text.specs.Items.{extended, Within, Item}
 use Rattle.record_text.proofs.ParsedLaws.{bad-found}
-use Rattle.record_text.proofs.LinesLaws.{refused-read, line-parts, lines-parts}
+use Rattle.record_text.proofs.LinesLaws.{refused-read, line-parts, lines-parts, many-reads, many-wrote}
 
 -- ---- a text and what follows it
 
@@ -48,15 +49,6 @@ module _ {A : Type 0} {p : Parser A} {text : A → List ℕ} {P : A → Type 0} 
           ap (λ (x : List ℕ). p (x ++ t)) (w .0) ∙ ap p (append-assoc (text a) u t) ∙ codec .reads a (u ++ t) (w .1)
 
 -- ---- lines and what follows them
-
-abbrev pub extended : {A : Type 0} → List ℕ → Lined A → Lined A
-extended t (refusedAt n k) = refusedAt n k
-extended t (read a u) = read a (u ++ t)
-
--- lines that take at most b bytes: of b bytes or more they read the same whatever follows
-pub record Within {A : Type 0} (b : ℕ) (f : List ℕ → Lined A) : Type 0 where
-  pub same : (s t : List ℕ) → b ≤ length s → f (s ++ t) ≡ extended t (f s)
-  pub left : (s u : List ℕ) (a : A) → f s ≡ read a u → length s ≤ length u + b
 
 pub within-more : {A : Type 0} {b c : ℕ} {f : List ℕ → Lined A} → b ≤ c → Within b f → Within c f
 within-more h w = record { same = λ s t l. w .same s t (omega arith); left = λ s u a e. omega (arith, w .left s u a e) }
@@ -120,13 +112,26 @@ module _ {A B : Type 0} {b c : ℕ} {f : List ℕ → Lined A} (first : Within b
           let l = lines-parts next (f s) v u e in
           omega (arith, first .left s (l .rest) (l .value) (l .first), after s (l .rest) (l .value) (l .first) .left (l .rest) u v (l .then))
 
--- m lines of one form
+-- ---- m lines of one form, each judged at the state that those before it left
+
 module _ {S A : Type 0} (b : ℕ) {p : Parser A} {text : A → List ℕ} {P : A → Type 0} (codec : Codec p text P) (short : (a : A) → length (text a) ≤ b)
     (meaning : S → A → ℕ) (step : S → A → S) where
-  pub many-within : (m k : ℕ) (c : S) → Within (b * m) (λ s. manyLines p meaning step m k c s)
+  many-within : (m k : ℕ) (c : S) → Within (b * m) (λ s. manyLines p meaning step m k c s)
   unfolding manyLines
   many-within zero k c = within-more (omega arith) (none-within [])
   many-within (suc m) k c =
       within-more (omega (arith, mul-suc b m))
       (line-within k b (b * m) codec short (meaning c) _
       (λ a _. within-more (omega arith) (lines-within (many-within m (suc k) (step c a)) (λ l u. read (a ∷ l) u) (λ s u l _. none-within (a ∷ l)))))
+
+  -- of the values each can be printed, and its meaning is not refused at its state
+  pub many-item :
+      (m k : ℕ)
+      → Item (λ c s. manyLines p meaning step m k c s) (texts text)
+      (λ c l. (length l ≡ m) × Each (λ c a. P a × (meaning c a ≡ 0)) step c l) (b * m)
+  many-item m k =
+      record {
+        reads = λ c l t h. many-reads p meaning step codec m k c l t (h .0) (h .1);
+        wrote = λ c l s t e. let w = many-wrote p meaning step codec m k c l s t e in (w .0, (w .1, w .2));
+        within = many-within m k;
+      }
