@@ -7,7 +7,7 @@ use native.Mathlib.Omega.{arith}
 use borrow.Author.Tests.{not-true, eqb-false}
 use lib.Dec.{eqb}
 use Rattle.arith.proofs.Bools.{both-of}
-use Rattle.arith.specs.Checks.{unless, refusal, Hold, elsewhere, Answer, refused, given, answer, lent, refusalOf}
+use Rattle.arith.specs.Checks.{unless, refusal, Hold, elsewhere, Answer, refused, given, answer, lent}
 
 -- no refusal: the check holds, and none after it fails
 pub passed : (b : Bool) (k rest : ℕ) → unless b (suc k) rest ≡ 0 → (b ≡ true) × (rest ≡ 0)
@@ -86,8 +86,3 @@ module _ {A : Type 0} where
 
   pub given-never : {X : Type 0} {k : ℕ} {a : A} → refused k ≡ given a → X
   given-never {k = k} {a = a} e = absurd (refused-means 0 k a (sym e) .1 refl)
-
-  -- the number of an answer is that of the check that failed
-  pub answer-number : (k : ℕ) (a : A) → refusalOf (answer k a) ≡ k
-  answer-number zero a = refl
-  answer-number (suc k) a = refl

@@ -10,7 +10,8 @@ abbrev pub unless : Bool → ℕ → ℕ → ℕ
 unless true number rest = rest
 unless false number rest = number
 
--- checks in order, each with the number of its refusal, which is not 0: the number of the first that fails, else what comes after
+-- checks in order, each with the number of its refusal: the number of the first that fails, else what comes after. A number is not 0, and
+-- is written so that its form says it.
 abbrev pub refusal : List (Bool × ℕ) → ℕ → ℕ
 refusal [] rest = rest
 refusal (c ∷ l) rest = unless (c .0) (suc (c .1 - 1)) (refusal l rest)
@@ -39,8 +40,3 @@ answer (suc k) a = refused (suc k)
 abbrev pub lent : {A : Type 0} → ℕ → A → A → A
 lent zero new old = new
 lent (suc k) new old = old
-
--- the number of an answer's refusal, 0 where it gives something
-abbrev pub refusalOf : {A : Type 0} → Answer A → ℕ
-refusalOf (refused number) = number
-refusalOf (given a) = 0

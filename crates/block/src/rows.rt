@@ -78,7 +78,7 @@ fn columns_of(n: usize, b: Block) -> Block
     t
 }
 
-// Transposes the block over its main diagonal; the answer is refusal 1, which alters nothing, or 0.
+// Transposes the block over its main diagonal, with 0 past its n rows and columns; the answer is refusal 1, which alters nothing, or 0.
 pub fn transpose(n: usize, b: &mut Block) -> u8
     ensures { λ r. ⌜ (r ≡ sizeRefusal n) × (now (b .exit) ≡ transposedAfter n (now (b .entry))) ⌝ }
 {

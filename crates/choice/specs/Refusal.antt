@@ -10,15 +10,15 @@ use Rattle.pattern.specs.Size.{sizeOk, wordOk}
 use Rattle.pattern.specs.Answer.{countOk, textureOk, textured}
 use Rattle.choice.specs.Case.{Case}
 
--- 4n neighbours, n * n original samples, texture of none or n * n samples, and a count that the lent words and 9,999 allow
+-- 4n neighbours, n * n original samples, texture of none or n * n samples, and a count that the lent patterns and 9,999 allow
 unfoldable pub lengthsOk : ℕ → ℕ → ℕ → ℕ → ℕ → ℕ → Bool
-lengthsOk n words count neighbours samples texture =
+lengthsOk n patterns count neighbours samples texture =
     eqb neighbours (4 * n)
     && (eqb samples (n * n)
     && (textureOk texture (n * n)
-    && countOk words count))
+    && countOk patterns count))
 
--- the first k words of the list mark samples of the block only
+-- the first k patterns of the list mark samples of the block only
 unfoldable pub wordsOk : ℕ → List ℕ → ℕ → Bool
 wordsOk n list zero = true
 wordsOk n list (suc k) = wordsOk n list k && wordOk n (getD list k 0)

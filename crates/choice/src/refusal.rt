@@ -4,23 +4,12 @@ ghost use mathlib.Core.Bool.{_||_};
 ghost use Prim.Native.Nat.{_*_, _≤_};
 ghost use lib.Dec.{ltb};
 ghost use Rattle.pattern.specs.Size.{greatestSize};
-ghost use Rattle.pattern.specs.Answer.{textureOk};
 ghost use Rattle.pattern.specs.Words.{patternsOf};
 ghost use Rattle.choice.specs.Case.{caseOf};
 ghost use Rattle.choice.specs.Refusal.{lengthsOk, wordsOk, chooseRefusal};
 use pattern::check;
 use pattern::count_ok;
-
-// Whether a texture is empty or has n * n samples.
-fn texture_ok(n: usize, texture: usize) -> bool
-    requires { ⌜ n ≤ greatestSize ⌝ }
-    ensures { λ r. ⌜ r ≡ textureOk texture (n * n) ⌝ }
-{
-    if texture == 0 {
-        return true;
-    }
-    texture == n * n
-}
+use pattern::texture_ok;
 
 // Whether neighbours, original and texture have their lengths, and the count is allowed.
 fn lengths_ok(
@@ -40,7 +29,7 @@ fn lengths_ok(
     if samples != n * n {
         return false;
     }
-    if !texture_ok(n, texture) {
+    if !texture_ok(texture, n * n) {
         return false;
     }
     count_ok(patterns, count)

@@ -1,8 +1,8 @@
 -- What C's calls stand for: a pattern handed in, a choice, and a record's pattern, with the list that they build for n.
 use Prim.Native.Nat.{ℕ, _*_}
-use mathlib.Core.List.{List, []}
+use mathlib.Core.List.{List, [], _∷_}
 use lib.ListN.{length, replicate}
-use Rattle.arith.specs.Checks.{unless, Answer, answer}
+use Rattle.arith.specs.Checks.{refusal, Answer, answer}
 use Rattle.pattern.specs.Size.{sizeOk}
 use Rattle.pattern.specs.Words.{usedNumber, patternsOf}
 use Rattle.pattern.specs.Answer.{textureOk, textured}
@@ -29,9 +29,8 @@ builtCase n neighbours original table reach texture =
 -- list is refused by 5)
 unfoldable pub patternRefusal : ℕ → ℕ → ℕ → List ℕ → ℕ
 patternRefusal n kind entry texture =
-    unless (sizeOk n) 1
-    (unless (textureOk (length texture) (n * n)) 2
-    (kindRefusal n (builtList n) (length (wedgeletList n)) (textured texture) kind entry 0))
+    refusal ((sizeOk n, 1) ∷ (textureOk (length texture) (n * n), 2) ∷ [])
+    (kindRefusal n (builtList n) (length (wedgeletList n)) (textured texture) kind entry 0)
 
 -- the pattern that a choice for C means by a record's kind and entry
 unfoldable pub patternAnswer : ℕ → ℕ → ℕ → List ℕ → Answer ℕ

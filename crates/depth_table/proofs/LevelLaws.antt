@@ -4,8 +4,8 @@ use mathlib.Core.Path.{_≡_, ap, _∙_}
 use mathlib.Core.Bool.{true}
 use mathlib.Core.List.{List}
 use native.Mathlib.Omega.{arith}
-use borrow.Author.Tests.{ltb-true, lt-ltb, leb-true}
-use lib.Dec.{ltb, leb}
+use borrow.Author.Tests.{ltb-true}
+use lib.Dec.{ltb}
 use lib.IntN.{ℤ, pos, negsuc}
 use lib.ListN.{length, getD}
 use Rattle.arith.specs.Checks.{given}
@@ -39,7 +39,7 @@ value-at t i off e o = ap (λ (x : ℕ). getD t x 0) (e ∙ ap (clamped (length 
 -- a sound table has one
 pub table-some : (t : List ℕ) → tableOk t ≡ true → someValue t ≡ true
 unfolding tableOk
-table-some t ok = lt-ltb 0 (length t) (leb-true 1 (length t) (both-of (leb 1 (length t)) _ ok .0))
+table-some t ok = both-of (someValue t) _ ok .0
 
 pub nearest-given : (t : List ℕ) (d : ℕ) → someValue t ≡ true → nearestAnswer t d ≡ given (indexOf t d)
 unfolding nearestAnswer

@@ -10,7 +10,7 @@ use lib.Seq.{drop-cons}
 use lib.Dec.{leb, ltb}
 use borrow.Author.Tests.{le-leb, lt-leb, lt-ltb, leb-true, ltb-true}
 use Rattle.arith.proofs.Bools.{both-of}
-use Rattle.depth_table.specs.Table.{bytes, rising, tableOk}
+use Rattle.depth_table.specs.Table.{bytes, rising, mostValues, someValue, tableOk}
 
 -- ---- bytes
 
@@ -66,20 +66,20 @@ rising-end t i low h = rw (drop-of-length-le t h)
 -- what a sound table has
 pub record Sound (t : List ℕ) : Type 0 where
   pub some : 1 ≤ length t
-  pub few : length t ≤ 256
+  pub few : length t ≤ mostValues
   pub small : bytes t ≡ true
   pub rises : rising 0 t ≡ true
 
 pub table-sound : (t : List ℕ) → tableOk t ≡ true → Sound t
 unfolding tableOk
 table-sound t h =
-    let p = both-of (leb 1 (length t)) _ h in
-    let q = both-of (leb (length t) 256) _ (p .1) in
+    let p = both-of (someValue t) _ h in
+    let q = both-of (leb (length t) mostValues) _ (p .1) in
     let r = both-of (bytes t) (rising 0 t) (q .1) in
-    record { some = leb-true 1 (length t) (p .0); few = leb-true (length t) 256 (q .0); small = r .0; rises = r .1 }
+    record { some = ltb-true 0 (length t) (p .0); few = leb-true (length t) mostValues (q .0); small = r .0; rises = r .1 }
 
 -- 1 to 256 values
-pub table-counts : (t : List ℕ) → tableOk t ≡ true → (1 ≤ length t) × (length t ≤ 256)
+pub table-counts : (t : List ℕ) → tableOk t ≡ true → (1 ≤ length t) × (length t ≤ mostValues)
 table-counts t h = let s = table-sound t h in (s .some, s .few)
 
 -- each 0 to 255 (past its end a list reads 0)

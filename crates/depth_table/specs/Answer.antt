@@ -18,7 +18,7 @@ indexRefusal t = refusal ((tableOk t, 3) ∷ []) 0
 unfoldable pub indexAnswer : List ℕ → ℕ → Answer ℕ
 indexAnswer t d = answer (indexRefusal t) (indexOf t d)
 
--- `nearest_index` answers the same of any values; 3: there is none
+-- `nearest_index` answers the same of any values, rising or not: of two equally near, the later; 3: there is none
 unfoldable pub nearestAnswer : List ℕ → ℕ → Answer ℕ
 nearestAnswer t d = answer (refusal ((someValue t, 3) ∷ []) 0) (indexOf t d)
 

@@ -20,13 +20,13 @@ rising low (a ∷ t) = leb low a && rising (suc a) t
 abbrev pub mostValues : ℕ
 mostValues = 256
 
--- a sound table: 1 to 256 values, each 0 to 255, strictly rising
-unfoldable pub tableOk : List ℕ → Bool
-tableOk t = leb 1 (length t) && (leb (length t) mostValues && (bytes t && rising 0 t))
-
 -- whether there is a value at all
 abbrev pub someValue : List ℕ → Bool
 someValue t = ltb 0 (length t)
+
+-- a sound table: 1 to 256 values, each 0 to 255, strictly rising
+unfoldable pub tableOk : List ℕ → Bool
+tableOk t = someValue t && (leb (length t) mostValues && (bytes t && rising 0 t))
 
 -- of the values at 0 .. k, the index of the one nearest to d; of two equally near, the later
 unfoldable pub nearestTo : List ℕ → ℕ → ℕ → ℕ

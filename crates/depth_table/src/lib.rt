@@ -90,7 +90,7 @@ fn nearest(table: &[u8], d: DepthValue) -> DepthIndex
     DepthIndex(best)
 }
 
-// The index of the value nearest to d of any values, rising or not; or refusal 3 where there is none.
+// The index of the value nearest to d of any values, rising or not: of two equally near, the later; or refusal 3 where there is none.
 pub fn nearest_index(table: &[u8], d: DepthValue) -> Indexed
     ensures { λ r. ⌜ indexTold r ≡ nearestAnswer (now (table .entry)) (d .0) ⌝ }
 {

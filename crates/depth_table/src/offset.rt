@@ -1,4 +1,4 @@
-// Offsets, and the table value that a depth and an offset give (document 01, "Predicted block").
+// Offsets, and the table value that an index and an offset give (document 01, "Predicted block").
 ghost use mathlib.Core.Path.{_≡_};
 ghost use Prim.Native.Nat.{_-_};
 ghost use Rattle.arith.specs.Distance.{clamped};

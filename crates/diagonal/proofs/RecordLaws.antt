@@ -15,7 +15,8 @@ use Rattle.pattern.specs.Size.{wordOk}
 use Rattle.pattern.specs.Answer.{samplesRefusal, contourAnswer}
 use Rattle.pattern.specs.Contour.{contourOf}
 use Rattle.depth_table.specs.Offset.{offsetOk}
-use Rattle.prediction.specs.Answer.{lengthsOk, predictRefusalBy, predictRefusal, predictBlockBy, predictBlock}
+use Rattle.depth_table.specs.Table.{tableOk}
+use Rattle.prediction.specs.Answer.{lengthsOk, predictRefusalBy, predictBlockBy, predictBlock}
 use Rattle.choice.specs.Offset.{InReach}
 use Rattle.choice.specs.Case.{Case}
 use Rattle.choice.specs.Record.{Within, patternBy, patternOf, predictionOf}
@@ -47,7 +48,7 @@ module _ (C : Case) (k : Accepted C) (r : Record) (h : Within C r) where
   offset-ok off l = le-leb (natAbs off) 255 (omega (arith, k .near))
 
   abbrev refusal : ℕ → ℕ
-  refusal samples = predictRefusal (C .n) (patternOf C r) (length (C .neighbours)) (C .table) (r .off0) (r .off1) samples
+  refusal samples = predictRefusalBy (tableOk (C .table)) (C .n) (patternOf C r) (length (C .neighbours)) (r .off0) (r .off1) samples
 
   predict-passes : (samples : ℕ) → samples ≡ C .n * C .n → refusal samples ≡ 0
   unfolding predictRefusalBy lengthsOk

@@ -1,10 +1,10 @@
 -- What the public calls answer: refusals in document 01's order.
 use Prim.Native.Nat.{ℕ, _*_}
 use mathlib.Core.Bool.{Bool, _&&_, _||_}
-use mathlib.Core.List.{List}
+use mathlib.Core.List.{List, [], _∷_}
 use lib.Dec.{eqb, leb, ltb}
 use lib.ListN.{length}
-use Rattle.arith.specs.Checks.{unless, Answer, answer}
+use Rattle.arith.specs.Checks.{refusal, Answer, answer}
 use Rattle.pattern.specs.Size.{sizeOk}
 use Rattle.pattern.specs.Contour.{contourOf}
 
@@ -22,7 +22,7 @@ textured texture = ltb 0 (length texture)
 
 -- 1: the size; 2: not n * n samples
 unfoldable pub samplesRefusal : ℕ → ℕ → ℕ
-samplesRefusal n samples = unless (sizeOk n) 1 (unless (eqb samples (n * n)) 2 0)
+samplesRefusal n samples = refusal ((sizeOk n, 1) ∷ (eqb samples (n * n), 2) ∷ []) 0
 
 -- `contour` answers the pattern
 unfoldable pub contourAnswer : ℕ → List ℕ → Answer ℕ

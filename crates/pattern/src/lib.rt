@@ -7,6 +7,7 @@ mod words;
 pub use checks::check;
 pub use checks::count_ok;
 pub use checks::lesser;
+pub use checks::texture_ok;
 pub use contours::Contoured;
 pub use contours::contour;
 pub use contours::samples_refusal;

@@ -39,9 +39,6 @@ predictBlockBy asked n w s t off0 off1 held =
     lent (predictRefusalBy asked n w (length s) off0 off1 (length held)) (predicted n w s t off0 off1) held
 
 -- `predict` asks for a sound table
-abbrev pub predictRefusal : ℕ → ℕ → ℕ → List ℕ → ℤ → ℤ → ℕ → ℕ
-predictRefusal n w neighbours t off0 off1 samples = predictRefusalBy (tableOk t) n w neighbours off0 off1 samples
-
 abbrev pub predictAnswer : ℕ → ℕ → List ℕ → List ℕ → ℤ → ℤ → ℕ → Answer ℕ
 predictAnswer n w s t off0 off1 samples = predictAnswerBy (tableOk t) n w s off0 off1 samples
 
@@ -49,11 +46,11 @@ abbrev pub predictBlock : ℕ → ℕ → List ℕ → List ℕ → ℤ → ℤ 
 predictBlock n w s t off0 off1 held = predictBlockBy (tableOk t) n w s t off0 off1 held
 
 -- `predict_from_values` for a value
-abbrev pub valuesAnswer : ℕ → ℕ → List ℕ → List ℕ → ℤ → ℤ → ℕ → Answer ℕ
-valuesAnswer n w s t off0 off1 samples = predictAnswerBy (someValue t) n w s off0 off1 samples
+abbrev pub predictValuesAnswer : ℕ → ℕ → List ℕ → List ℕ → ℤ → ℤ → ℕ → Answer ℕ
+predictValuesAnswer n w s t off0 off1 samples = predictAnswerBy (someValue t) n w s off0 off1 samples
 
-abbrev pub valuesBlock : ℕ → ℕ → List ℕ → List ℕ → ℤ → ℤ → List ℕ → List ℕ
-valuesBlock n w s t off0 off1 held = predictBlockBy (someValue t) n w s t off0 off1 held
+abbrev pub predictValuesBlock : ℕ → ℕ → List ℕ → List ℕ → ℤ → ℤ → List ℕ → List ℕ
+predictValuesBlock n w s t off0 off1 held = predictBlockBy (someValue t) n w s t off0 off1 held
 
 -- what a value of the block is worked out from, where no check fails
 pub record Predictable (n : ℕ) (s t : List ℕ) (off0 off1 : ℤ) : Type 0 where

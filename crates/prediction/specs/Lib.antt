@@ -1,4 +1,4 @@
--- Document 01, "Predicted block".
+-- Document 01, "Side depths" and "Predicted block".
 pub mod Block
 pub mod Answer
 pub mod Cases

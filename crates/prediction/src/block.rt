@@ -11,7 +11,7 @@ ghost use Rattle.prediction.specs.Block.{sampleOf};
 ghost use Rattle.pattern.specs.Size.{greatestSize};
 ghost use Rattle.pattern.specs.Words.{patternNumber, usedNumber};
 ghost use Rattle.prediction.specs.Answer.{lengthsOk, Predictable, predictRefusalBy, predictAnswerBy, predictBlockBy};
-ghost use Rattle.prediction.specs.Answer.{predictAnswer, predictBlock, valuesAnswer, valuesBlock, predictTold};
+ghost use Rattle.prediction.specs.Answer.{predictAnswer, predictBlock, predictValuesAnswer, predictValuesBlock, predictTold};
 use crate::Predicted;
 use depth_table::DepthValue;
 use depth_table::Indexed;
@@ -160,9 +160,9 @@ pub fn predict_from_values(
     block: &mut [u8],
 ) -> Predicted
     ensures answered { λ r. ⌜ predictTold r
-        ≡ valuesAnswer n (usedNumber n p) (now (border .entry)) (now (table .entry)) off0 off1 (length (now (block .entry))) ⌝ }
+        ≡ predictValuesAnswer n (usedNumber n p) (now (border .entry)) (now (table .entry)) off0 off1 (length (now (block .entry))) ⌝ }
     ensures written { λ r. ⌜ now (block .exit)
-        ≡ valuesBlock n (usedNumber n p) (now (border .entry)) (now (table .entry)) off0 off1 (now (block .entry)) ⌝ }
+        ≡ predictValuesBlock n (usedNumber n p) (now (border .entry)) (now (table .entry)) off0 off1 (now (block .entry)) ⌝ }
 {
     let some = 0 < table.len();
     predict_where(some, n, p, border, table, off0, off1, block)

@@ -1,4 +1,4 @@
-// The predicted block (document 01, "Predicted block").
+// Side depths and the predicted block (document 01, "Side depths" and "Predicted block").
 mod block;
 mod sides;
 

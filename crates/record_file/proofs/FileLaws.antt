@@ -29,9 +29,9 @@ use Rattle.record_text.proofs.ItemLaws.{many-item}
 use Rattle.record_text.proofs.LengthLaws.{value-le, record-le}
 use Rattle.record.specs.Record.{noRecord}
 use Rattle.record_file.specs.Text.{sizeFieldsOf, fileText}
-use Rattle.record_file.specs.Reading.{File, fileOf, Aids, sizeChecks, sizeMeaning, valueMeaning, lowAfter, recordMeaning, unchanged}
+use Rattle.record_file.specs.Reading.{File, fileOf, Aids, sizeChecks, sizeMeaning, valueMeaning, lowAfter, recordLineMeaning, unchanged}
 use Rattle.record_file.specs.Reading.{valueLines, recordLines, lastLines, headLines, frontLines, blocksIn, fileLines}
-use Rattle.record_file.proofs.MeaningLaws.{SoundValue, values-sound, sound-values, each-made, each-at, record-small, small-printable}
+use Rattle.record_file.proofs.MeaningLaws.{SoundValue, SoundRecord, values-sound, sound-values, each-made, each-at, record-small, small-printable}
 
 -- what is sound in a file
 pub record FileSound (A : Aids) (F : File) : Type 0 where
@@ -39,7 +39,7 @@ pub record FileSound (A : Aids) (F : File) : Type 0 where
   pub values : bytes (F .table) ≡ true
   pub rises : rising 0 (F .table) ≡ true
   pub whole : length (F .records) ≡ blocks (F .n) (F .width) (F .height)
-  pub each : (i : ℕ) → i < length (F .records) → recordMeaning (F .n) A tt (getD (F .records) i noRecord) ≡ 0
+  pub each : (i : ℕ) → i < length (F .records) → recordLineMeaning (F .n) A tt (getD (F .records) i noRecord) ≡ 0
 
 abbrev pub textOf : File → List ℕ
 textOf F = fileText (F .n) (F .width) (F .height) (F .table) (F .records)
@@ -85,9 +85,9 @@ value-item = many-item 6 value-line value-le valueMeaning lowAfter
 
 pub record-item :
     (n : ℕ) (A : Aids) (m k : ℕ)
-    → Item (λ c s. manyLines recordLine (recordMeaning n A) unchanged m k c s) (texts recordText)
-    (λ c l. (length l ≡ m) × Each (λ c r. RecordPrintable r × (recordMeaning n A c r ≡ 0)) unchanged c l) (26 * m)
-record-item n A = many-item 26 record-line record-le (recordMeaning n A) unchanged
+    → Item (λ c s. manyLines recordLine (recordLineMeaning n A) unchanged m k c s) (texts recordText)
+    (λ c l. (length l ≡ m) × Each (SoundRecord n A) unchanged c l) (26 * m)
+record-item n A = many-item 26 record-line record-le (recordLineMeaning n A) unchanged
 
 -- ---- what is printed is read
 
@@ -95,9 +95,9 @@ module _ (A : Aids) (F : File) (few : A .count (F .n) ≤ 9999) (ok : FileSound 
   abbrev header : SizeFields
   header = sizeFieldsOf (F .n) (F .width) (F .height) (length (F .table))
 
-  sound-records : Each (λ (c : Unit {0}) r. RecordPrintable r × (recordMeaning (F .n) A tt r ≡ 0)) unchanged tt (F .records)
+  sound-records : Each (SoundRecord (F .n) A) unchanged tt (F .records)
   sound-records =
-      each-made (λ r. RecordPrintable r × (recordMeaning (F .n) A tt r ≡ 0)) unchanged noRecord (F .records)
+      each-made (SoundRecord (F .n) A tt) unchanged noRecord (F .records)
       (λ i h. let m = ok .each i h in (small-printable _ (record-small (F .n) (A .list (F .n)) (A .count (F .n)) _ _ few m), m))
 
   last-read : lastLines (F .n) A (blocksIn header) (5 + length (F .table)) (texts recordText (F .records)) ≡ read (F .records) []
@@ -140,7 +140,7 @@ sound-as :
     (A : Aids) (F : File) (z : SizeFields) (table : List ℕ) (records : List Record)
     → sizeMeaning (length (A .texture)) z ≡ 0 → length table ≡ z .values → Each SoundValue lowAfter 0 table
     → length records ≡ blocks (z .n) (z .width) (z .height)
-    → Each (λ (c : Unit {0}) r. RecordPrintable r × (recordMeaning (z .n) A tt r ≡ 0)) unchanged tt records
+    → Each (SoundRecord (z .n) A) unchanged tt records
     → fileOf (z .n) (z .width) (z .height) table records ≡ F → FileSound A F
 sound-as A F z table records h c v l r eF =
     let w = sound-values table 0 v in
@@ -150,7 +150,7 @@ sound-as A F z table records h c v l r eF =
       values = w .0;
       rises = w .1;
       whole = l;
-      each = λ i k. each-at (λ a. RecordPrintable a × (recordMeaning (z .n) A tt a ≡ 0)) unchanged noRecord records r i k .1;
+      each = λ i k. each-at (SoundRecord (z .n) A tt) unchanged noRecord records r i k .1;
     })
 
 -- what was read

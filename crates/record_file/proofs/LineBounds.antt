@@ -1,5 +1,5 @@
--- How far a file goes: its blocks, and the refusals of reading, of which none has the number 0 or a line past those of 256 values and
--- 1,024 records.
+-- How far a file goes: its blocks, and the refusals of reading, of which none has the number 0 or a line past the one after the last of
+-- 256 values and 1,024 records.
 use Prim.Native.Nat.{ℕ, zero, suc, _+_, _/_, _≤_, _<_}
 use mathlib.Core.Path.{_≡_, refl, sym, _∙_, ap}
 use mathlib.Core.List.{List, [], _∷_}
@@ -14,7 +14,7 @@ use Rattle.record_text.specs.Parsed.{Parsed, Parser, badForm, found, exactly}
 use Rattle.record_text.specs.Line.{sizeTitle, depthTitle, recordTitle, sizeLine, valueLine, recordLine}
 use Rattle.record_text.specs.Lines.{Lined, refusedAt, read, judged, line, linesThen, noMeaning, manyLines, ended}
 use Rattle.record_text.proofs.LinesLaws.{line-parts}
-use Rattle.record_file.specs.Reading.{Aids, sizeMeaning, valueMeaning, lowAfter, recordMeaning, unchanged, valueLines, recordLines}
+use Rattle.record_file.specs.Reading.{Aids, sizeMeaning, valueMeaning, lowAfter, recordLineMeaning, unchanged, valueLines, recordLines}
 use Rattle.record_file.specs.Reading.{headLines, tableLines, frontLines, blocksIn, restLines, fileLines, listsOk, readLengthsOk, readFile}
 use Rattle.record_file.proofs.FileLaws.{size-small, front-parts}
 
@@ -71,7 +71,7 @@ module _ (b : ℕ) where
   ended-below k a [] h = tt
   ended-below k a (x ∷ s) h = (omega arith, h)
 
--- the lines after the last record of the longest file start here
+-- the first line that is never reported: one more than the line after the last record of the longest file
 abbrev pub lineEnd : ℕ
 lineEnd = 5 + mostValues + mostBlocks + 1
 
@@ -105,7 +105,7 @@ front-below texture s =
 rest-below : (A : Aids) (z : SizeFields) (s : List ℕ) → z .values ≤ mostValues → blocksIn z ≤ mostBlocks → Below lineEnd (restLines A z s)
 rest-below A z s v m =
     lines-below lineEnd (recordLines (z .n) A (blocksIn z) (5 + z .values) s) _
-    (many-below lineEnd recordLine (recordMeaning (z .n) A) unchanged (blocksIn z) (5 + z .values) tt s (omega arith))
+    (many-below lineEnd recordLine (recordLineMeaning (z .n) A) unchanged (blocksIn z) (5 + z .values) tt s (omega arith))
     (λ l t _. ended-below lineEnd _ l t (omega arith))
 
 file-below : (A : Aids) (s : List ℕ) → Below lineEnd (fileLines A s)

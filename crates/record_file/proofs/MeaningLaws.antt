@@ -20,12 +20,16 @@ use Rattle.record_text.specs.Codec.{NumberPrintable}
 use Rattle.record_text.specs.Printable.{RecordPrintable}
 use Rattle.record_text.specs.Lines.{Each}
 use Rattle.record_file.specs.Writing.{Small}
-use Rattle.record_file.specs.Reading.{valueMeaning, lowAfter}
+use Rattle.record_file.specs.Reading.{Aids, valueMeaning, lowAfter, recordLineMeaning}
 
 -- ---- table values
 
+-- a value, and a record, that can be printed, and whose line is not refused
 abbrev pub SoundValue : ℕ → ℕ → Type 0
 SoundValue low v = NumberPrintable v × (valueMeaning low v ≡ 0)
+
+abbrev pub SoundRecord : ℕ → Aids → Unit {0} → Record → Type 0
+SoundRecord n A c r = RecordPrintable r × (recordLineMeaning n A c r ≡ 0)
 
 -- values that are bytes and rise are sound line by line
 pub values-sound : (t : List ℕ) (low : ℕ) → bytes t ≡ true → rising low t ≡ true → Each SoundValue lowAfter low t

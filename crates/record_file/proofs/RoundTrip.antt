@@ -12,6 +12,7 @@ use Rattle.arith.specs.Checks.{refusal}
 use Rattle.arith.specs.Lists.{listOf}
 use Rattle.arith.proofs.Bools.{both-of}
 use Rattle.arith.proofs.ListLaws.{length-listOf, listOf-at, listOf-ext, listOf-own}
+use Rattle.depth_table.proofs.TableLaws.{table-sound}
 use Rattle.depth_table.specs.Table.{mostValues, tableOk, bytes, rising}
 use Rattle.sheet.specs.declared.Sheet.{Sheet}
 use Rattle.sheet_grid.specs.Grid.{mostSamples, mostBlocks, blocks}
@@ -61,18 +62,10 @@ module _ (samples records : ℕ) (A : Aids) where
 abbrev pub heldBy : Source → File
 heldBy W = fileOf (W .sheet .n) (W .sheet .width) (W .sheet .height) (W .table) (listOf (W .record-at) (blocksOf (W .sheet)))
 
--- the parts of a sound table
-table-parts : (t : List ℕ) → tableOk t ≡ true → (leb 1 (length t) ≡ true) × (leb (length t) mostValues ≡ true) × (bytes t ≡ true) × (rising 0 t ≡ true)
-unfolding tableOk
-table-parts t h =
-    let a = both-of (leb 1 (length t)) _ h in
-    let b = both-of (leb (length t) mostValues) _ (a .1) in
-    let c = both-of (bytes t) (rising 0 t) (b .1) in
-    (a .0, b .0, c .0, c .1)
-
+-- a table is sound by its parts
 pub parts-table : (t : List ℕ) → 1 ≤ length t → length t ≤ mostValues → bytes t ≡ true → rising 0 t ≡ true → tableOk t ≡ true
 unfolding tableOk
-parts-table t a b c d = rw (le-leb _ _ a, le-leb _ _ b, c, d)
+parts-table t a b c d = rw (lt-ltb 0 (length t) a, le-leb _ _ b, c, d)
 
 module _
     (W : Source) (A : Aids) (records space : ℕ)
@@ -93,12 +86,12 @@ module _
     unfolding sizeMeaning
     held-sound =
         let p = accepted-parts W list count records space accepted in
-        let t = table-parts (W .table) (p .sound) in
+        let t = table-sound (W .table) (p .sound) in
         record {
           size = passes (sizeChecks (length texture) (sizeFieldsOf (W .sheet .n) (W .sheet .width) (W .sheet .height) (length (W .table)))) 0
-              (p .size, (p .sides, (is-texture (length texture) (area (W .sheet)) fits, (rw (t .0) (t .1), tt))));
-          values = t .2;
-          rises = t .3;
+              (p .size, (p .sides, (is-texture (length texture) (area (W .sheet)) fits, (rw (le-leb _ _ (t .some)) (le-leb _ _ (t .few)), tt))));
+          values = t .small;
+          rises = t .rises;
           whole = length-listOf (W .record-at) (blocksOf (W .sheet));
           each = λ i h.
               let k : i < blocksOf (W .sheet) = omega (arith, length-listOf (W .record-at) (blocksOf (W .sheet))) in

@@ -67,8 +67,8 @@ abbrev pub lowAfter : ℕ → ℕ → ℕ
 lowAfter low v = suc v
 
 -- the meaning of a record's line for blocks of size n: 7, 21, 6, 5, 4; no line depends on the ones before it
-abbrev pub recordMeaning : ℕ → Aids → Unit {0} → Record → ℕ
-recordMeaning n A c r = recordRefusal n (A .list n) (A .count n) (textured (A .texture)) r
+abbrev pub recordLineMeaning : ℕ → Aids → Unit {0} → Record → ℕ
+recordLineMeaning n A c r = recordRefusal n (A .list n) (A .count n) (textured (A .texture)) r
 
 abbrev pub unchanged : Unit {0} → Record → Unit {0}
 unchanged c r = c
@@ -78,7 +78,7 @@ abbrev pub valueLines : ℕ → ℕ → List ℕ → Lined (List ℕ)
 valueLines m k s = manyLines valueLine valueMeaning lowAfter m k 0 s
 
 abbrev pub recordLines : ℕ → Aids → ℕ → ℕ → List ℕ → Lined (List Record)
-recordLines n A m k s = manyLines recordLine (recordMeaning n A) unchanged m k tt s
+recordLines n A m k s = manyLines recordLine (recordLineMeaning n A) unchanged m k tt s
 
 -- m records from line k on, and nothing after them: what is left is the line after the last
 abbrev pub lastLines : ℕ → Aids → ℕ → ℕ → List ℕ → Lined (List Record)

@@ -20,8 +20,7 @@ use Rattle.sheet.specs.State.{blocksOf}
 use Rattle.sheet.specs.Place.{placedInTurn}
 use Rattle.record_text.specs.Lines.{Lined, refusedAt, read, linesThen}
 use Rattle.record_file.specs.Reading.{File, fileOf, Aids, aidsOf, frontLines, fileLines, listsOk, readLengthsOk, readFile}
-use Rattle.record_file.proofs.FileLaws.{size-small, front-parts, file-wrote}
-use Rattle.record_file.proofs.MeaningLaws.{sound-values}
+use Rattle.record_file.proofs.FileLaws.{size-small, file-wrote}
 use Rattle.record_file.proofs.LineBounds.{blocks-few}
 use Rattle.record_read.specs.declared.blocks.Reading.{Reading}
 use Rattle.record_read.specs.declared.front.Front.{Front}
@@ -141,11 +140,9 @@ module _ (A : Aids) (s : List ℕ) (f : Front) (front : FrontRead (length (A .te
 
   pub begun : (records : ℕ) → Counted A (f .n) → mostBlocks ≤ records → Begun A (tableOf f) (begunAt f) (areaOf f) records
   begun records counted room =
-      let p = front-parts (length (A .texture)) s (frontSize f) (front .table) (drop (f .at) s) (front .is) in
-      let v = sound-values (front .table) 0 (p .each) in
       record {
         empty = refl;
-        placeable = rw table-is (size-placeable A (frontSize f) (front .table) (front .size) (front .count) (v .0) (v .1) counted);
+        placeable = rw table-is (size-placeable A (frontSize f) (front .table) (front .size) (front .count) counted);
         room = room;
         low = omega (arith, values-few);
       }

@@ -1,28 +1,28 @@
 -- Records placed in turn, and what holds of a sound file's records for their blocks.
 use Prim.Native.Nat.{ℕ, zero, suc, _+_, _*_, _<_}
 use mathlib.Core.Path.{_≡_, refl, _∙_}
-use mathlib.Core.Bool.{true}
+use mathlib.Core.Bool.{Bool, true}
 use mathlib.Core.List.{List}
 use native.Mathlib.Numerals.{add-one}
 use native.Mathlib.Omega.{arith}
+use borrow.Author.Tests.{lt-ltb}
 use lib.ListN.{length}
 use Rattle.arith.proofs.CheckLaws.{holds}
-use Rattle.depth_table.specs.Table.{bytes, rising, tableOk}
 use Rattle.pattern.proofs.AnswerLaws.{texture-is}
 use Rattle.record.specs.declared.Record.{Record}
 use Rattle.sheet.specs.declared.Sheet.{Sheet}
 use Rattle.sheet.specs.State.{stateOf, after, blocksOf, lengthsOk}
-use Rattle.sheet.specs.Place.{Material, placeRefusalBy, placeRefusal, placedSamples, placedInTurn}
+use Rattle.sheet.specs.Place.{Material, Fits, placeRefusalBy, placeRefusal, placedSamples, placedInTurn}
 use Rattle.sheet.specs.Compose.{missing}
 use Rattle.sheet.proofs.StateLaws.{lengths-do, open-none}
 use Rattle.sheet.proofs.TurnLaws.{open-after}
 use Rattle.record_text.specs.declared.fields.SizeFields.{SizeFields}
 use Rattle.record_file.specs.Text.{sizeFieldsOf}
-use Rattle.record_file.specs.Reading.{File, Aids, sizeChecks, sizeMeaning, recordMeaning}
+use Rattle.record_file.specs.Reading.{File, Aids, sizeChecks, sizeMeaning, recordLineMeaning}
 use Rattle.record_file.proofs.FileLaws.{FileSound, size-small}
 use Rattle.record_file.proofs.RoundTrip.{parts-table}
 use Rattle.record_read.specs.Back.{emptySheet, materialFor, materialIn, inTurn}
-use Rattle.record_read.specs.Step.{Placeable, Counted}
+use Rattle.record_read.specs.Step.{Counted}
 use Rattle.record_read.proofs.EmptyLaws.{open-empty}
 
 -- ---- placing in turn
@@ -47,35 +47,34 @@ in-turn-ext S M f g s (suc k) h = rw (in-turn-ext S M f g s k (λ i l. h i (omeg
 
 -- ---- where a record can be placed
 
--- placing then refuses what the meaning of the record's line refuses
+-- where the table is as asked, placing refuses what the meaning of the record's line refuses
 pub place-means :
-    (A : Aids) (table : List ℕ) (S : Sheet) (samples : ℕ) → Placeable S samples (materialFor A (S .n) table) → (f : Record)
-    → placeRefusal S samples (materialFor A (S .n) table) f ≡ recordMeaning (S .n) A tt f
+    (A : Aids) (table : List ℕ) (S : Sheet) (samples : ℕ) {asked : Bool} → Fits S (materialFor A (S .n) table) samples → asked ≡ true
+    → (f : Record) → placeRefusalBy asked S samples (materialFor A (S .n) table) f ≡ recordLineMeaning (S .n) A tt f
 unfolding placeRefusalBy
-place-means A table S samples p f =
+place-means A table S samples {asked} p as-asked f =
     let patterns = length (A .list (S .n)) in
     let texture = length (A .texture) in
-    open-none S (lengthsOk S samples patterns (A .count (S .n)) texture) (tableOk table) (recordMeaning (S .n) A tt f) (p .is-open)
-    (lengths-do S samples patterns (A .count (S .n)) texture (p .lengths)) (p .sound)
+    open-none S (lengthsOk S samples patterns (A .count (S .n)) texture) asked (recordLineMeaning (S .n) A tt f) (p .is-open)
+    (lengths-do S samples patterns (A .count (S .n)) texture (p .lengths)) as-asked
 
 -- also after k blocks, where one is missing
 pub placeable-after :
-    (S : Sheet) (samples : ℕ) (M : Material) (k : ℕ) → Placeable S samples M → k < missing S → Placeable (after k S) samples M
+    (S : Sheet) (samples : ℕ) (M : Material) (k : ℕ) → Fits S M samples → k < missing S → Fits (after k S) M samples
 placeable-after S samples M k p h =
     record {
+      valued = p .valued;
       is-open = open-after S k {u = after k S} (p .is-open) h refl;
       lengths =
           record { whole = p .lengths .whole; optional = p .lengths .optional; inside = p .lengths .inside; few = p .lengths .few };
-      sound = p .sound;
     }
 
--- an empty sheet, with a sound size line and a sound table
+-- an empty sheet, with a sound size line
 pub size-placeable :
     (A : Aids) (z : SizeFields) (table : List ℕ) → sizeMeaning (length (A .texture)) z ≡ 0 → length table ≡ z .values
-    → bytes table ≡ true → rising 0 table ≡ true → Counted A (z .n)
-    → Placeable (stateOf (z .n) (z .width) (z .height) 0) (z .width * z .height) (materialFor A (z .n) table)
+    → Counted A (z .n) → Fits (stateOf (z .n) (z .width) (z .height) 0) (materialFor A (z .n) table) (z .width * z .height)
 unfolding sizeMeaning
-size-placeable A z table size long values rises counted =
+size-placeable A z table size long counted =
     let s = size-small (length (A .texture)) z size in
     let c = holds (sizeChecks (length (A .texture)) z) 0 size .0 in
     record {
@@ -87,7 +86,7 @@ size-placeable A z table size long values rises counted =
             inside = counted .inside;
             few = counted .few;
           };
-      sound = parts-table table (omega (arith, s .some, long)) (omega (arith, s .values, long)) values rises;
+      valued = lt-ltb 0 (length table) (omega (arith, s .some, long));
     }
 
 -- the numbers of a file's size line
@@ -101,7 +100,8 @@ pub file-accepted :
 file-accepted A F ok counted i l =
     let S = emptySheet F in
     let area = F .width * F .height in
-    let p = size-placeable A (headerOf F) (F .table) (ok .size) refl (ok .values) (ok .rises) counted in
+    let p = size-placeable A (headerOf F) (F .table) (ok .size) refl counted in
+    let s = size-small (length (A .texture)) (headerOf F) (ok .size) in
     let h : i < missing S = omega arith in
-    place-means A (F .table) (after i S) area (placeable-after S area (materialIn A F) i p h) (inTurn (F .records) i)
+    place-means A (F .table) (after i S) area (placeable-after S area (materialIn A F) i p h) (parts-table (F .table) (s .some) (s .values) (ok .values) (ok .rises)) (inTurn (F .records) i)
     ∙ ok .each i (rw (ok .whole) l)

@@ -1,7 +1,6 @@
 -- The lines of the records as the code reads them: a step, the loop over the blocks, and the end of the bytes.
 use Prim.Native.Nat.{ℕ, suc, _+_, _≤_, _<_}
 use mathlib.Core.Path.{_≡_, refl, sym, _∙_, ap, subst}
-use mathlib.Core.Bool.{Bool}
 use mathlib.Core.List.{List, [], _∷_, _++_, map}
 use native.Mathlib.Nat.{add-zero}
 use native.Mathlib.Omega.{arith}
@@ -12,13 +11,12 @@ use Rattle.arith.specs.Checks.{refused, given}
 use Rattle.arith.proofs.CheckLaws.{given-means, refused-means}
 use Rattle.arith.proofs.ListLaws.{length-end}
 use Rattle.depth_table.specs.Table.{someValue}
-use Rattle.depth_table.proofs.LevelLaws.{table-some}
 use Rattle.record.specs.declared.Record.{Record}
 use Rattle.record.specs.Record.{noRecord}
 use Rattle.record.specs.Lent.{fieldsOf}
 use Rattle.sheet.specs.declared.Sheet.{Sheet}
 use Rattle.sheet.specs.State.{after, blocksOf, Open}
-use Rattle.sheet.specs.Place.{Material, placeRefusalBy, placedSamples, placeAnswerBy, placeAfterBy, valuesAnswer, valuesAfter, placedInTurn}
+use Rattle.sheet.specs.Place.{Material, Fits, placeRefusalBy, placedSamples, placeAnswerBy, placeAfterBy, placeValuesAnswer, placeValuesAfter, placedInTurn}
 use Rattle.sheet.specs.Compose.{missing}
 use Rattle.sheet.proofs.TurnLaws.{after-more}
 use Rattle.sheet_grid.specs.Grid.{mostBlocks}
@@ -27,52 +25,50 @@ use Rattle.record_text.specs.Parsed.{badForm, found}
 use Rattle.record_text.specs.Line.{recordLine}
 use Rattle.record_text.specs.Lines.{Lined, refusedAt, read, line, linesThen, ended}
 use Rattle.record_text.proofs.LinesLaws.{line-bad, line-refused, line-read}
-use Rattle.record_file.specs.Reading.{Aids, recordMeaning, unchanged, recordLines}
+use Rattle.record_file.specs.Reading.{Aids, recordLineMeaning, unchanged, recordLines}
 use Rattle.record_read.specs.declared.blocks.Reading.{Reading}
 use Rattle.record_read.specs.declared.blocks.Stepped.{Stepped}
 use Rattle.record_read.specs.declared.blocks.Stepped.the-variants as stepped
 use Rattle.record_read.specs.declared.loops.LinesRead.the-variants as linesRead
 use Rattle.record_read.specs.Back.{materialFor, inTurn, recordsOver}
-use Rattle.record_read.specs.Step.{Placeable, Steps, Begun, Left, placedAll, blockLines, ReadsAll}
+use Rattle.record_read.specs.Step.{Steps, Begun, Left, placedAll, blockLines, ReadsAll}
 use Rattle.record_read.proofs.ReadLaws.{Going, going-start, going-more, going-refused, going-end}
 use Rattle.record_read.proofs.RestLaws.{in-turn-none, in-turn-more, in-turn-ext, place-means, placeable-after}
 
 -- ---- a step
 
 module _
-    (A : Aids) (table t : List ℕ) (r : Reading) (s : List ℕ) (ok : Placeable (r .sheet) (length t) (materialFor A (r .sheet .n) table))
+    (A : Aids) (table t : List ℕ) (r : Reading) (s : List ℕ) (ok : Fits (r .sheet) (materialFor A (r .sheet .n) table) (length t))
   where
     abbrev material : Material
     material = materialFor A (r .sheet .n) table
 
-    -- a sound table has a value, so that is all that is asked of it
+    -- of the table a value is asked
     abbrev refusal : Record → ℕ
     refusal f = placeRefusalBy (someValue table) (r .sheet) (length t) material f
 
-    means : (f : Record) → refusal f ≡ recordMeaning (r .sheet .n) A tt f
-    means f =
-        ap (λ (b : Bool). placeRefusalBy b (r .sheet) (length t) material f) (table-some table (ok .sound) ∙ sym (ok .sound))
-        ∙ place-means A table (r .sheet) (length t) ok f
+    means : (f : Record) → refusal f ≡ recordLineMeaning (r .sheet .n) A tt f
+    means = place-means A table (r .sheet) (length t) ok (ok .valued)
 
     -- the line has another form
     pub step-bad : {t′ : List ℕ} → recordLine (drop (r .at) s) ≡ badForm → Steps A table r s t t′ (stepped.Refused 9 (r .line))
-    step-bad e = record { told = sym (line-bad (r .line) (recordMeaning (r .sheet .n) A tt) read e); stood = tt }
+    step-bad e = record { told = sym (line-bad (r .line) (recordLineMeaning (r .sheet .n) A tt) read e); stood = tt }
 
     -- it has its form, and the record is placed, or refused
     module _ {f : Record} (at : ℕ) (form : recordLine (drop (r .at) s) ≡ found f (drop at s)) where
       pub step-next :
-          {S : Sheet} {t′ : List ℕ} → given S ≡ valuesAnswer (r .sheet) t material f → t′ ≡ valuesAfter (r .sheet) t material f
+          {S : Sheet} {t′ : List ℕ} → given S ≡ placeValuesAnswer (r .sheet) t material f → t′ ≡ placeValuesAfter (r .sheet) t material f
           → Steps A table r s t t′ (stepped.Next f (record { at = at; line = r .line + 1; sheet = S }))
       unfolding placeAnswerBy placeAfterBy
       step-next {S} a d =
           let g = given-means (refusal f) (after 1 (r .sheet)) S (sym a) in
           record {
-            told = sym (line-read (r .line) (recordMeaning (r .sheet .n) A tt) read form (sym (means f) ∙ g .0));
+            told = sym (line-read (r .line) (recordLineMeaning (r .sheet .n) A tt) read form (sym (means f) ∙ g .0));
             stood = (refl, sym (g .1), rw (g .0) at d);
           }
 
       pub step-refused :
-          {n : ℕ} {t′ : List ℕ} → refused n ≡ valuesAnswer (r .sheet) t material f
+          {n : ℕ} {t′ : List ℕ} → refused n ≡ placeValuesAnswer (r .sheet) t material f
           → Steps A table r s t t′ (stepped.Refused n (r .line))
       unfolding placeAnswerBy
       step-refused {n} a =
@@ -80,7 +76,7 @@ module _
           record {
             told =
                 ap (λ (k : ℕ). refusedAt k (r .line)) (g .0 ∙ means f)
-                ∙ sym (line-refused (r .line) (recordMeaning (r .sheet .n) A tt) read form (λ z. g .1 (means f ∙ z)));
+                ∙ sym (line-refused (r .line) (recordLineMeaning (r .sheet .n) A tt) read form (λ z. g .1 (means f ∙ z)));
             stood = tt;
           }
 
@@ -137,7 +133,7 @@ module _ (A : Aids) (table : List ℕ) (from : Reading) (s : List ℕ) (old : Le
   pub record Turned (i : ℕ) (r : Reading) (samples : List ℕ) (records : List (List ℤ)) : Type 0 where
     pub stands : r ≡ readingAt i (r .at)
     pub going :
-        Going recordLine (recordMeaning (S .n) A) unchanged m (from .line) tt (drop (from .at) s) i tt (drop (r .at) s)
+        Going recordLine (recordLineMeaning (S .n) A) unchanged m (from .line) tt (drop (from .at) s) i tt (drop (r .at) s)
         (λ l. (samples ≡ placedInTurn S M (inTurn l) (old .0) i) × (records ≡ recordsOver l (old .1)))
 
   pub turned-start : Turned 0 from (old .0) (old .1)
@@ -145,27 +141,27 @@ module _ (A : Aids) (table : List ℕ) (from : Reading) (s : List ℕ) (old : Le
       record {
         stands = rw (add-zero (from .line), add-zero (S .placed));
         going =
-            going-start recordLine (recordMeaning (S .n) A) unchanged m (from .line) tt (drop (from .at) s)
+            going-start recordLine (recordLineMeaning (S .n) A) unchanged m (from .line) tt (drop (from .at) s)
             (in-turn-none S M (inTurn []) (old .0), refl);
       }
 
   module _ {i : ℕ} {r : Reading} {samples : List ℕ} {records : List (List ℤ)} (now : Turned i r samples records) where
     -- the line as the loop counts it
     step-told :
-        {x : Lined Record} → x ≡ line (r .line) (recordLine (drop (r .at) s)) (recordMeaning (r .sheet .n) A tt) read
-        → x ≡ line (from .line + i) (recordLine (drop (r .at) s)) (recordMeaning (S .n) A tt) read
+        {x : Lined Record} → x ≡ line (r .line) (recordLine (drop (r .at) s)) (recordLineMeaning (r .sheet .n) A tt) read
+        → x ≡ line (from .line + i) (recordLine (drop (r .at) s)) (recordLineMeaning (S .n) A tt) read
     step-told {x} e =
-        subst (λ (q : Reading). x ≡ line (q .line) (recordLine (drop (r .at) s)) (recordMeaning (q .sheet .n) A tt) read) (now .stands) e
+        subst (λ (q : Reading). x ≡ line (q .line) (recordLine (drop (r .at) s)) (recordLineMeaning (q .sheet .n) A tt) read) (now .stands) e
 
     -- the next record can be placed, and its line's number is small
     pub turned-begun :
         {n k : ℕ} → Begun A table from n k → i < m → length samples ≡ n
-        → (Placeable (r .sheet) (length samples) (materialFor A (r .sheet .n) table)) × (r .line ≤ 10000)
+        → (Fits (r .sheet) (materialFor A (r .sheet .n) table) (length samples)) × (r .line ≤ 10000)
     turned-begun {n} b h e =
         let l : i < missing S = omega (arith, b .empty) in
         let few = few-blocks S (b .placeable .is-open) in (
           rw e
-              (subst (λ (q : Reading). Placeable (q .sheet) n (materialFor A (q .sheet .n) table)) (sym (now .stands))
+              (subst (λ (q : Reading). Fits (q .sheet) (materialFor A (q .sheet .n) table) n) (sym (now .stands))
               (placeable-after S n M i (b .placeable) l)),
           omega (arith, b .low, ap (λ (q : Reading). q .line) (now .stands), few),
         )
@@ -181,7 +177,7 @@ module _ (A : Aids) (table : List ℕ) (from : Reading) (s : List ℕ) (old : Le
         record {
           stands = reading-is next number sheet;
           going =
-              going-more recordLine (recordMeaning (S .n) A) unchanged m (from .line) tt (drop (from .at) s) (now .going) h
+              going-more recordLine (recordLineMeaning (S .n) A) unchanged m (from .line) tt (drop (from .at) s) (now .going) h
               (λ l. (drawn ≡ placedInTurn S M (inTurn l) (old .0) (i + 1)) × (set records i v ≡ recordsOver l (old .1)))
               (step-told (st .told)) refl
               (λ l c k. (placed-more S M (old .0) l f c (k .0) placed, stored-more l f (old .1) c (k .1) room same));
@@ -193,13 +189,13 @@ module _ (A : Aids) (table : List ℕ) (from : Reading) (s : List ℕ) (old : Le
     turned-refused {n} {k} {drawn} h e step =
         let st = subst (Steps A table r s samples drawn) e step in
         let q : recordLines (S .n) A m (from .line) (drop (from .at) s) ≡ refusedAt n k =
-        going-refused recordLine (recordMeaning (S .n) A) unchanged m (from .line) tt (drop (from .at) s) (now .going) h (step-told (st .told)) in
+        going-refused recordLine (recordLineMeaning (S .n) A) unchanged m (from .line) tt (drop (from .at) s) (now .going) h (step-told (st .told)) in
         record { told = rw q; left = rw q tt }
 
     -- all blocks are read: something is left, or nothing is
     module _ (last : i ≡ m) where
       all : recordLines (S .n) A m (from .line) (drop (from .at) s) ≡ read (now .going .values) (drop (r .at) s)
-      all = going-end recordLine (recordMeaning (S .n) A) unchanged m (from .line) tt (drop (from .at) s) (now .going) (omega (arith, last))
+      all = going-end recordLine (recordLineMeaning (S .n) A) unchanged m (from .line) tt (drop (from .at) s) (now .going) (omega (arith, last))
 
       pub turned-past : {new : Left} → r .at < length s → ReadsAll A table from s old new (linesRead.Refused 9 (r .line))
       turned-past h =

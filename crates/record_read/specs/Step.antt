@@ -1,21 +1,20 @@
 -- The lines of the records, one step a line: its record is placed on the sheet so far.
 use Prim.Native.Nat.{ℕ, _+_, _*_, _≤_}
-use mathlib.Core.Bool.{true}
 use mathlib.Core.List.{List}
 use mathlib.Core.Path.{_≡_}
 use lib.IntN.{ℤ}
 use lib.ListN.{length, take, drop, replicate}
 use lib.Seq.{sets}
-use Rattle.depth_table.specs.Table.{mostValues, tableOk}
+use Rattle.depth_table.specs.Table.{mostValues}
 use Rattle.pattern.specs.Words.{patternsOf}
 use Rattle.record.specs.declared.Record.{Record}
 use Rattle.sheet_grid.specs.Grid.{mostBlocks}
-use Rattle.sheet.specs.State.{stateOf, after, blocksOf, finished, Open, Lengths}
+use Rattle.sheet.specs.State.{stateOf, after, blocksOf, finished}
 use Rattle.sheet.specs.declared.Sheet.{Sheet}
-use Rattle.sheet.specs.Place.{Material, placedSamples, placedInTurn}
+use Rattle.sheet.specs.Place.{Material, Fits, placedSamples, placedInTurn}
 use Rattle.record_text.specs.Line.{recordLine}
 use Rattle.record_text.specs.Lines.{Lined, refusedAt, read, line, linesThen}
-use Rattle.record_file.specs.Reading.{File, fileOf, Aids, sizeMeaning, recordMeaning, frontLines, lastLines}
+use Rattle.record_file.specs.Reading.{File, fileOf, Aids, sizeMeaning, recordLineMeaning, frontLines, lastLines}
 use Rattle.record_read.specs.Back.{materialFor, inTurn, recordsOver, fileBack}
 use Rattle.record_read.specs.Told.{linesTold, only, PutIf, frontSize}
 use Rattle.record_read.specs.declared.front.Front.{Front}
@@ -32,12 +31,6 @@ oneList words count texture = record { list = λ n. patternsOf n words; count = 
 
 -- ---- one block
 
--- a record can be placed: the state has a block to place, and lengths and table are sound
-pub record Placeable (S : Sheet) (samples : ℕ) (M : Material) : Type 0 where
-  pub is-open : Open S
-  pub lengths : Lengths S samples (length (M .list)) (M .count) (length (M .texture))
-  pub sound : tableOk (M .table) ≡ true
-
 -- what a step answers, and where reading then is, with the samples; of a refusal only its number and line are said
 abbrev pub stepTold : List ℕ → Stepped → Lined Record
 stepTold s (stepped.Next f r) = read f (drop (r .at) s)
@@ -50,7 +43,7 @@ Stood M r old new (stepped.Refused n k) = Unit {0}
 
 -- a step from r over the bytes s, where the samples are old before and new afterwards
 pub record Steps (A : Aids) (table : List ℕ) (r : Reading) (s old new : List ℕ) (t : Stepped) : Type 0 where
-  pub told : stepTold s t ≡ line (r .line) (recordLine (drop (r .at) s)) (recordMeaning (r .sheet .n) A tt) read
+  pub told : stepTold s t ≡ line (r .line) (recordLine (drop (r .at) s)) (recordLineMeaning (r .sheet .n) A tt) read
   pub stood : Stood (materialFor A (r .sheet .n) table) r old new t
 
 -- ---- all blocks of an empty sheet, and the end of the bytes
@@ -58,7 +51,7 @@ pub record Steps (A : Aids) (table : List ℕ) (r : Reading) (s old new : List �
 -- before the first of them, with so many samples and records lent
 pub record Begun (A : Aids) (table : List ℕ) (r : Reading) (samples records : ℕ) : Type 0 where
   pub empty : r .sheet .placed ≡ 0
-  pub placeable : Placeable (r .sheet) samples (materialFor A (r .sheet .n) table)
+  pub placeable : Fits (r .sheet) (materialFor A (r .sheet .n) table) samples
   pub room : mostBlocks ≤ records
   pub low : r .line ≤ 1000
 

@@ -20,9 +20,9 @@ use Rattle.record_read.specs.declared.loops.LinesRead.{LinesRead}
 use Rattle.record_read.specs.declared.loops.LinesRead.the-variants as linesRead
 
 -- what each case of the answers says
-abbrev pub valueTold : List ℕ → ValueRead → Lined ℕ
-valueTold s (valueRead.Value v c) = read v (remaining s c)
-valueTold s (valueRead.Refused n k) = refusedAt n k
+abbrev pub valueLineTold : List ℕ → ValueRead → Lined ℕ
+valueLineTold s (valueRead.Value v c) = read v (remaining s c)
+valueLineTold s (valueRead.Refused n k) = refusedAt n k
 
 abbrev pub sizeBackTold : List ℕ → SizeBack → Lined SizeFields
 sizeBackTold s (sizeBack.Value z c) = read z (remaining s c)

@@ -2,8 +2,8 @@
 ghost use Prim.Native.Nat.{_≤_};
 ghost use lib.ListN.{length};
 ghost use Rattle.pattern.specs.Words.{patternsOf};
-ghost use Rattle.sheet.specs.Place.{materialOf};
-ghost use Rattle.record_read.specs.Step.{oneList, Placeable, Steps, Begun, Left, ReadsAll};
+ghost use Rattle.sheet.specs.Place.{materialOf, Fits};
+ghost use Rattle.record_read.specs.Step.{oneList, Steps, Begun, Left, ReadsAll};
 use crate::loops::LinesRead;
 use record::Record;
 use record::fields_of;
@@ -37,7 +37,7 @@ fn read_block(
     texture: &[u8],
 ) -> Stepped
     requires { let M = materialOf (patternsOf (r .sheet .n) (now list)) count (now table) (now texture) in
-        ⌜ (Placeable (r .sheet) (length (now samples)) M) × (r .line ≤ 10000) ⌝ }
+        ⌜ (Fits (r .sheet) M (length (now samples))) × (r .line ≤ 10000) ⌝ }
     ensures { λ t.
         let A = oneList (now (list .entry)) count (now (texture .entry)) in
         ⌜ Steps A (now (table .entry)) r (now (bytes .entry)) (now (samples .entry)) (now (samples .exit)) t ⌝ }

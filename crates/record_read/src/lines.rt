@@ -1,13 +1,12 @@
 // The first three lines, and one line of a table value, each judged by its form and then by its meaning.
 ghost use mathlib.Core.Path.{_≡_};
-ghost use mathlib.Core.Bool.{_||_};
 ghost use Prim.Native.Nat.{_*_};
 ghost use Rattle.pattern.specs.Answer.{textureOk};
 ghost use Rattle.record_text.specs.Line.{valueLine};
 ghost use Rattle.record_text.specs.Lines.{line, read};
 ghost use Rattle.record_text.specs.Told.{remaining};
 ghost use Rattle.record_file.specs.Reading.{sizeMeaning, valueMeaning, headLines};
-ghost use Rattle.record_read.specs.Told.{valueTold, sizeBackTold};
+ghost use Rattle.record_read.specs.Told.{valueLineTold, sizeBackTold};
 use depth_table::VALUES;
 use record_text::Cursor;
 use record_text::NumberRead;
@@ -34,7 +33,7 @@ pub(crate) enum SizeBack {
 
 // The line k of a table value that is to be at least `low`.
 pub(crate) fn value_line(bytes: &[u8], from: Cursor, low: u32, k: u32) -> ValueRead
-    ensures { λ r. ⌜ valueTold (now (bytes .entry)) r ≡ line k (valueLine (remaining (now (bytes .entry)) from)) (valueMeaning low) read ⌝ }
+    ensures { λ r. ⌜ valueLineTold (now (bytes .entry)) r ≡ line k (valueLine (remaining (now (bytes .entry)) from)) (valueMeaning low) read ⌝ }
 {
     let a = read_value_line(bytes, from);
     let NumberRead::Value(v, next) = a else {
@@ -49,12 +48,11 @@ pub(crate) fn value_line(bytes: &[u8], from: Cursor, low: u32, k: u32) -> ValueR
     ValueRead::Value(v, next)
 }
 
-// Whether the texture is none, or of as many samples as the sheet.
-fn texture_ok(texture: usize, width: u32, height: u32) -> bool
+// Whether the texture is none, or of as many samples as a sheet of width by height.
+fn sheet_texture_ok(texture: usize, width: u32, height: u32) -> bool
     ensures { λ r. ⌜ r ≡ textureOk texture (width * height) ⌝ }
 {
-    let area = width as usize * height as usize;
-    texture == 0 || texture == area
+    pattern::texture_ok(texture, width as usize * height as usize)
 }
 
 // The first refusal of the size line's numbers, or 0.
@@ -65,7 +63,7 @@ fn size_meaning(texture: usize, z: SizeFields) -> u8
     if sides != 0 {
         return sides;
     }
-    if !texture_ok(texture, z.width, z.height) {
+    if !sheet_texture_ok(texture, z.width, z.height) {
         return 2;
     }
     if z.values < 1 {

@@ -52,7 +52,7 @@ fn lists_ok(
     count_ok(whole_patterns(GREATEST_SIZE, words16), count16)
 }
 
-// Whether what is lent to reading is long enough.
+// Whether what is lent to reading is long enough, and each list's count is allowed.
 fn read_lengths_ok(samples: usize, records: usize, lists: bool) -> bool
     ensures { λ r. ⌜ r ≡ readLengthsOk samples records lists ⌝ }
 {

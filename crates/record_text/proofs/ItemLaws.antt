@@ -1,4 +1,5 @@
--- Items of a file: reading and printing a line, or several, are inverse to each other, and what is read depends only on the first bytes.
+-- Items of a file, read from a given state: reading and printing are inverse to each other, and what is read depends only on the first
+-- bytes.
 use Prim.Native.Nat.{ℕ, zero, suc, _+_, _*_, _≤_}
 use mathlib.Core.Path.{_≡_, refl, sym, _∙_, ap}
 use mathlib.Core.List.{List, [], _∷_, _++_, append-assoc}
@@ -9,7 +10,7 @@ use lib.Seq.{take-append-le, take-append-seam}
 use Rattle.record_text.specs.Parsed.{Parsed, Parser, badForm, found}
 use Rattle.record_text.specs.Codec.{Codec}
 use Rattle.record_text.specs.Lines.{Lined, refusedAt, read, judged, line, linesThen, manyLines, ended, texts, Each}
-use Rattle.record_text.specs.Items.{extended, Within, Item}
+use Rattle.record_text.specs.Items.{extended, TakesAtMost, Item}
 use Rattle.record_text.proofs.ParsedLaws.{bad-found}
 use Rattle.record_text.proofs.LinesLaws.{refused-read, line-parts, lines-parts, many-reads, many-wrote}
 
@@ -50,18 +51,18 @@ module _ {A : Type 0} {p : Parser A} {text : A → List ℕ} {P : A → Type 0} 
 
 -- ---- lines and what follows them
 
-pub within-more : {A : Type 0} {b c : ℕ} {f : List ℕ → Lined A} → b ≤ c → Within b f → Within c f
+pub within-more : {A : Type 0} {b c : ℕ} {f : List ℕ → Lined A} → b ≤ c → TakesAtMost b f → TakesAtMost c f
 within-more h w = record { same = λ s t l. w .same s t (omega arith); left = λ s u a e. omega (arith, w .left s u a e) }
 
 -- no line
-pub none-within : {A : Type 0} (a : A) → Within 0 (λ s. read a s)
+pub none-within : {A : Type 0} (a : A) → TakesAtMost 0 (λ s. read a s)
 none-within a = record { same = λ s t h. refl; left = λ s u c e. omega (arith, ap length (rest e)) }
   where
     rest : {c : _} {s u : List ℕ} → read a s ≡ read c u → s ≡ u
     rest e = cc
 
 -- the end: one byte is enough to see that there is more
-pub ended-within : {A : Type 0} (k : ℕ) (a : A) → Within 1 (λ s. ended k a s)
+pub ended-within : {A : Type 0} (k : ℕ) (a : A) → TakesAtMost 1 (λ s. ended k a s)
 ended-within k a = record { same = same; left = left }
   where
     same : (s t : List ℕ) → 1 ≤ length s → ended k a (s ++ t) ≡ extended t (ended k a s)
@@ -74,8 +75,8 @@ ended-within k a = record { same = same; left = left }
 
 -- one line and then others
 module _ {A B : Type 0} (k b c : ℕ) {p : Parser A} {text : A → List ℕ} {P : A → Type 0} (codec : Codec p text P) (short : (a : A) → length (text a) ≤ b)
-    (meaning : A → ℕ) (next : A → List ℕ → Lined B) (after : (a : A) → meaning a ≡ 0 → Within c (next a)) where
-  pub line-within : Within (b + c) (λ s. line k (p s) meaning next)
+    (meaning : A → ℕ) (next : A → List ℕ → Lined B) (after : (a : A) → meaning a ≡ 0 → TakesAtMost c (next a)) where
+  pub line-within : TakesAtMost (b + c) (λ s. line k (p s) meaning next)
   line-within = record { same = same; left = left }
     where
       step : (n : ℕ) (a : A) (u t : List ℕ) → meaning a ≡ n → c ≤ length u → judged n k (next a (u ++ t)) ≡ extended t (judged n k (next a u))
@@ -95,9 +96,9 @@ module _ {A B : Type 0} (k b c : ℕ) {p : Parser A} {text : A → List ℕ} {P 
           omega (arith, parsed-left codec b short s (l .rest) (l .value) (l .form), after (l .value) (l .sound) .left (l .rest) u v (l .then))
 
 -- lines and then others
-module _ {A B : Type 0} {b c : ℕ} {f : List ℕ → Lined A} (first : Within b f) (next : A → List ℕ → Lined B)
-    (after : (s u : List ℕ) (a : A) → f s ≡ read a u → Within c (next a)) where
-  pub lines-within : Within (b + c) (λ s. linesThen (f s) next)
+module _ {A B : Type 0} {b c : ℕ} {f : List ℕ → Lined A} (first : TakesAtMost b f) (next : A → List ℕ → Lined B)
+    (after : (s u : List ℕ) (a : A) → f s ≡ read a u → TakesAtMost c (next a)) where
+  pub lines-within : TakesAtMost (b + c) (λ s. linesThen (f s) next)
   lines-within = record { same = same; left = left }
     where
       same : (s t : List ℕ) → b + c ≤ length s → linesThen (f (s ++ t)) next ≡ extended t (linesThen (f s) next)
@@ -116,7 +117,7 @@ module _ {A B : Type 0} {b c : ℕ} {f : List ℕ → Lined A} (first : Within b
 
 module _ {S A : Type 0} (b : ℕ) {p : Parser A} {text : A → List ℕ} {P : A → Type 0} (codec : Codec p text P) (short : (a : A) → length (text a) ≤ b)
     (meaning : S → A → ℕ) (step : S → A → S) where
-  many-within : (m k : ℕ) (c : S) → Within (b * m) (λ s. manyLines p meaning step m k c s)
+  many-within : (m k : ℕ) (c : S) → TakesAtMost (b * m) (λ s. manyLines p meaning step m k c s)
   unfolding manyLines
   many-within zero k c = within-more (omega arith) (none-within [])
   many-within (suc m) k c =

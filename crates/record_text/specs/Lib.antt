@@ -1,4 +1,4 @@
--- The definitions that the contracts of `record_text` cite.
+-- The definitions that the contracts of `record_text` cite, and those of lines and items that `record_file` builds on.
 pub mod Bytes
 pub mod Numeral
 pub mod Parsed

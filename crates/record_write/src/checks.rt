@@ -17,7 +17,7 @@ use record::record_in;
 use sheet::Sheet;
 use sheet::state_refusal;
 
-// Whether there are 80 + 4 * values + 32 * blocks bytes. The products are not formed: they need not fit a machine word.
+// Whether there are 80 + 4 * values + 32 * blocks bytes. No product is formed before it is known to fit a machine word.
 fn space_ok(values: usize, blocks: u64, space: usize) -> bool
     ensures { λ r. ⌜ r ≡ leb (spaceFor values blocks) space ⌝ }
 {
@@ -32,7 +32,7 @@ fn space_ok(values: usize, blocks: u64, space: usize) -> bool
     blocks <= records as u64
 }
 
-// Whether what is lent to writing is long enough.
+// Whether what is lent to writing is long enough, and the list's count is allowed.
 fn write_lengths_ok(
     sheet: Sheet,
     words: usize,

@@ -18,7 +18,7 @@ use Rattle.pattern.proofs.SizeLaws.{square-256, size-bounds}
 use Rattle.block.specs.Block.{capacity, blockOf, samplesOf}
 use Rattle.block.specs.Answer.{blockAfter, samplesAfter}
 use Rattle.block.proofs.BlockLaws.{samples-again}
-use Rattle.prediction.specs.Answer.{lengthsOk, predictRefusalBy, predictBlockBy, valuesBlock}
+use Rattle.prediction.specs.Answer.{lengthsOk, predictRefusalBy, predictBlockBy, predictValuesBlock}
 use Rattle.prediction.specs.Block.{predicted}
 use Rattle.prediction.proofs.BlockLaws.{length-predicted}
 use Rattle.choice.specs.Case.{Case, caseOf}
@@ -50,7 +50,7 @@ module _ (n word : ℕ) (near t : List ℕ) (off0 off1 : ℤ) (size : sizeOk n �
   -- what prediction leaves at the front of an array
   pub drawable-front :
       (held rest : List ℕ) {new : List ℕ} {w : ℕ} {y z : ℤ} → length held ≡ n * n → w ≡ word → y ≡ off0 → z ≡ off1
-      → new ≡ valuesBlock n w near t y z held → take (n * n) (new ++ rest) ≡ predicted n word near t off0 off1
+      → new ≡ predictValuesBlock n w near t y z held → take (n * n) (new ++ rest) ≡ predicted n word near t off0 off1
   unfolding predictBlockBy
   drawable-front held rest {new} full same f g e =
       let q : new ≡ predicted n word near t off0 off1 = rw (same, f, g) at e ∙ rw (drawable-none size near-full full able) in

@@ -83,11 +83,11 @@ abbrev pub placeAfter : Sheet → List ℕ → Material → Record → List ℕ
 placeAfter S s M r = placeAfterBy (tableOk (M .table)) S s M r
 
 -- `place_from_values` for a value
-abbrev pub valuesAnswer : Sheet → List ℕ → Material → Record → Answer Sheet
-valuesAnswer S s M r = placeAnswerBy (someValue (M .table)) S s M r
+abbrev pub placeValuesAnswer : Sheet → List ℕ → Material → Record → Answer Sheet
+placeValuesAnswer S s M r = placeAnswerBy (someValue (M .table)) S s M r
 
-abbrev pub valuesAfter : Sheet → List ℕ → Material → Record → List ℕ
-valuesAfter S s M r = placeAfterBy (someValue (M .table)) S s M r
+abbrev pub placeValuesAfter : Sheet → List ℕ → Material → Record → List ℕ
+placeValuesAfter S s M r = placeAfterBy (someValue (M .table)) S s M r
 
 -- the samples after the first k records are placed in turn
 unfoldable pub placedInTurn : Sheet → Material → (ℕ → Record) → List ℕ → ℕ → List ℕ

@@ -7,7 +7,7 @@ use mathlib.Core.Logic.{_⊎_}
 use Rattle.arith.specs.Checks.{refusal, Answer, answer}
 use Rattle.pattern.specs.Size.{greatestSize, sizeOk}
 use Rattle.sheet_grid.specs.Grid.{longest, blocks, blockX, blockY}
-use Rattle.sheet.specs.Checks.{sidesOkBy, newRefusal, lengthsOkBy, stateRefusalBy, startRefusalBy}
+use Rattle.sheet.specs.Checks.{sidesOkBy, newRefusal, lengthsOkBy, startRefusalBy}
 use Rattle.sheet.specs.declared.Sheet.{Sheet}
 
 -- The state is n, width, height and the number of blocks placed.
@@ -50,10 +50,6 @@ newAnswer n w h = answer (newRefusal n w h) (stateOf n w h 0)
 -- 2: the lengths of the lent samples, patterns, count and texture
 abbrev pub lengthsOk : Sheet → ℕ → ℕ → ℕ → ℕ → Bool
 lengthsOk S samples patterns count texture = lengthsOkBy (S .width) (S .height) samples patterns count texture
-
--- 1, 2, 8, 23, then the rest
-unfoldable pub stateRefusal : Sheet → Bool → ℕ → ℕ
-stateRefusal S lengths rest = stateRefusalBy (S .n) (S .width) (S .height) (S .placed) lengths rest
 
 -- in placing and composing 1, 2, 8, 23, 20, then the rest
 abbrev pub startRefusal : Sheet → Bool → ℕ → ℕ

@@ -1,4 +1,4 @@
-// Drawing a record: its predicted block, put in its place.
+// Drawing a record: its predicted block, put in its place; and choosing the record that is drawn.
 ghost use mathlib.Core.Path.{_≡_};
 ghost use mathlib.Core.Bool.{true};
 ghost use mathlib.Core.List.{[]};

@@ -9,7 +9,7 @@ use pattern::check;
 // The greatest width and height.
 pub const LONGEST: usize = 128;
 
-// The most samples and the most records that a sheet has.
+// The most samples, and the most blocks, so records, that a sheet has.
 pub const MOST_SAMPLES: usize = LONGEST * LONGEST;
 
 pub const MOST_BLOCKS: usize = 1024;

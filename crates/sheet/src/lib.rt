@@ -28,7 +28,7 @@ pub enum Made {
     Refused(u8),
 }
 
-// What `Sheet::place` answers: the next state, or the number of its refusal.
+// What `Sheet::place` and `Sheet::place_from_values` answer: the next state, or the number of the refusal.
 pub enum Placed {
     Next(Sheet),
     Refused(u8),

@@ -9,7 +9,7 @@ ghost use Rattle.depth_table.specs.Table.{someValue};
 ghost use Rattle.pattern.specs.Words.{patternsOf};
 ghost use Rattle.sheet_grid.specs.Samples.{cut};
 ghost use Rattle.sheet.specs.Place.{materialOf, BlockLit, Fits, materialRefusal, placedSamples, placeAnswerBy, placeAfterBy};
-ghost use Rattle.sheet.specs.Place.{placeAnswer, placeAfter, valuesAnswer, valuesAfter};
+ghost use Rattle.sheet.specs.Place.{placeAnswer, placeAfter, placeValuesAnswer, placeValuesAfter};
 ghost use Rattle.sheet.specs.Told.{placeTold};
 use crate::Placed;
 use crate::Sheet;
@@ -150,10 +150,10 @@ impl Sheet {
     ) -> Placed
         ensures answered { λ t.
             let M = materialOf (patternsOf (self .n) (now (list .entry))) count (now (table .entry)) (now (texture .entry)) in
-            ⌜ placeTold t ≡ valuesAnswer self (now (samples .entry)) M r ⌝ }
+            ⌜ placeTold t ≡ placeValuesAnswer self (now (samples .entry)) M r ⌝ }
         ensures left { λ t.
             let M = materialOf (patternsOf (self .n) (now (list .entry))) count (now (table .entry)) (now (texture .entry)) in
-            ⌜ now (samples .exit) ≡ valuesAfter self (now (samples .entry)) M r ⌝ }
+            ⌜ now (samples .exit) ≡ placeValuesAfter self (now (samples .entry)) M r ⌝ }
     {
         let some = 0 < table.len();
         self.place_where(some, samples, list, count, table, texture, r)

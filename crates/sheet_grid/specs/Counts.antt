@@ -53,7 +53,7 @@ pub record RunIn (samples count first step others other : ℕ) : Type 0 where
   pub own : (j : ℕ) → j < count → first + j * step < samples
   pub rest : 0 < others → other < samples
 
--- the places of the first samples of the block at (x, y); 0 where a run has none
+-- the places of the first samples of the two runs of the block at (x, y); 0 where a run has none
 abbrev pub leftFirst : ℕ → ℕ → ℕ → ℕ
 leftFirst w x y = cond (ltb 0 x) (place w (x - 1) y) 0
 

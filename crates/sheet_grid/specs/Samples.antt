@@ -25,7 +25,9 @@ written n w x y b s = listOf (writtenAt n w x y b s) (length s)
 unfoldable pub cut : ℕ → ℕ → ℕ → ℕ → List ℕ → List ℕ
 cut n w x y s = listOf (λ k. getD s (place w (x + k % n) (y + k / n)) 0) (n * n)
 
--- the same as a block, n rows of n
+-- ---- as the code has them
+
+-- the block that is cut, n rows of n
 abbrev pub cutBlock : ℕ → ℕ → ℕ → ℕ → List ℕ → List (List ℕ)
 cutBlock n w x y s = blockBy capacity n (λ i r. getD s (place w (x + i) (y + r)) 0)
 

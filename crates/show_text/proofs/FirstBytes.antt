@@ -11,7 +11,7 @@ use Rattle.record_text.specs.declared.fields.SizeFields.{SizeFields}
 use Rattle.record_text.specs.Parsed.{Parsed, badForm, found, andThen, exactly}
 use Rattle.record_text.specs.Line.{sizeTitle, depthTitle, recordTitle, sizeLine}
 use Rattle.record_text.specs.Lines.{Lined, refusedAt, read, noMeaning}
-use Rattle.record_text.specs.Items.{extended, Within}
+use Rattle.record_text.specs.Items.{extended, TakesAtMost}
 use Rattle.record_text.proofs.ItemLaws.{onward, parsed-same, within-more, none-within, ended-within, line-within, lines-within}
 use Rattle.record_text.proofs.LengthLaws.{size-le}
 use Rattle.record_text.proofs.LineLaws.{size-line}
@@ -36,28 +36,28 @@ record-title-length : length recordTitle ≤ 21
 unfolding recordTitle
 record-title-length = omega arith
 
-head-within : (texture : ℕ) → Within (25 + (24 + (6 + 0))) (headLines texture)
+head-within : (texture : ℕ) → TakesAtMost (25 + (24 + (6 + 0))) (headLines texture)
 head-within texture =
     line-within 1 25 (24 + (6 + 0)) (exactly-codec sizeTitle) (λ _. size-title-length) noMeaning _ (λ _ _.
     line-within 2 24 (6 + 0) size-line size-le (sizeMeaning texture) _ (λ z _.
     line-within 3 6 0 (exactly-codec depthTitle) (λ _. depth-title-length) noMeaning _ (λ _ _. none-within z)))
 
-table-within : (z : SizeFields) → z .values ≤ mostValues → Within (6 * mostValues + (21 + 0)) (tableLines z)
+table-within : (z : SizeFields) → z .values ≤ mostValues → TakesAtMost (6 * mostValues + (21 + 0)) (tableLines z)
 table-within z h =
     lines-within {b = 6 * mostValues} (within-more (omega arith) (value-item (z .values) 4 .within 0)) _ (λ s u table _.
     line-within (4 + z .values) 21 0 (exactly-codec recordTitle) (λ _. record-title-length) noMeaning _ (λ _ _. none-within (z, table)))
 
-front-within : (texture : ℕ) → Within (25 + (24 + (6 + 0)) + (6 * mostValues + (21 + 0))) (frontLines texture)
+front-within : (texture : ℕ) → TakesAtMost (25 + (24 + (6 + 0)) + (6 * mostValues + (21 + 0))) (frontLines texture)
 front-within texture =
     lines-within (head-within texture) (λ z s. tableLines z s)
     (λ s u z e. table-within z (size-small texture z (head-sound texture s z u e) .values))
 
-rest-within : (A : Aids) (z : SizeFields) → blocksIn z ≤ mostBlocks → Within (26 * mostBlocks + 1) (restLines A z)
+rest-within : (A : Aids) (z : SizeFields) → blocksIn z ≤ mostBlocks → TakesAtMost (26 * mostBlocks + 1) (restLines A z)
 rest-within A z h =
     lines-within {b = 26 * mostBlocks} (within-more (omega arith) (record-item (z .n) A (blocksIn z) (5 + z .values) .within tt)) _
     (λ s u l _. ended-within _ l)
 
-file-within : (A : Aids) → Within fileSpace (fileLines A)
+file-within : (A : Aids) → TakesAtMost fileSpace (fileLines A)
 unfolding fileLines
 file-within A =
     within-more (omega arith)

@@ -1,10 +1,10 @@
 -- Document 01, "House file": what `show` prints of a file.
 use Prim.Native.Nat.{ℕ, suc, _+_, _*_}
 use mathlib.Core.Bool.{cond}
-use mathlib.Core.List.{List, [], _++_}
+use mathlib.Core.List.{List, [], _∷_, _++_}
 use lib.Dec.{eqb, leb}
 use lib.ListN.{length, drop}
-use Rattle.arith.specs.Checks.{unless, Answer, answer, lent}
+use Rattle.arith.specs.Checks.{refusal, Answer, answer, lent}
 use Rattle.pattern.specs.Size.{greatestSize}
 use Rattle.pattern.specs.Words.{wordList}
 use Rattle.depth_table.specs.Table.{mostValues}
@@ -69,7 +69,7 @@ textBytes = 27 + 4 * mostSamples
 
 -- 2: the lent space is shorter than that, whatever the file
 abbrev pub showRefusal : ℕ → ℕ
-showRefusal space = unless (leb textBytes space) 2 0
+showRefusal space = refusal ((leb textBytes space, 2) ∷ []) 0
 
 -- `show_text` answers the text's length
 unfoldable pub showAnswer : List ℕ → ℕ → Answer ℕ

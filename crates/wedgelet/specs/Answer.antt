@@ -1,10 +1,10 @@
 -- What building the list answers and leaves in the lent slice: refusals in document 01's order.
 use Prim.Native.Nat.{ℕ, _-_, _*_}
 use mathlib.Core.Bool.{Bool, _&&_}
-use mathlib.Core.List.{List, _++_}
+use mathlib.Core.List.{List, [], _∷_, _++_}
 use lib.Dec.{eqb, leb}
 use lib.ListN.{length, take, drop}
-use Rattle.arith.specs.Checks.{unless, Answer, answer, lent}
+use Rattle.arith.specs.Checks.{refusal, Answer, answer, lent}
 use Rattle.arith.specs.Lists.{sameList}
 use Rattle.pattern.specs.Size.{greatestSize, sizeOk}
 use Rattle.pattern.specs.Words.{wordsOf, wordList}
@@ -27,7 +27,7 @@ mostWords = neededWords greatestSize
 
 -- 1: the size; 2: the lent list is short
 unfoldable pub listRefusal : ℕ → ℕ → ℕ
-listRefusal n words = unless (sizeOk n) 1 (unless (leb (neededWords n) words) 2 0)
+listRefusal n words = refusal ((sizeOk n, 1) ∷ (leb (neededWords n) words, 2) ∷ []) 0
 
 -- `wedgelets` answers the count
 unfoldable pub listAnswer : ℕ → List ℕ → Answer ℕ

@@ -6,15 +6,15 @@ use mathlib.Core.List.{List}
 use lib.ListN.{length, getD}
 use Rattle.pattern.specs.Pattern.{mark, transposed}
 
--- no word is zero
+-- no pattern is zero
 abbrev pub Nonzero : List ℕ → Type 0
 Nonzero l = (i : ℕ) → i < length l → getD l i 0 ≡ 0 → ⊥
 
--- no word stands twice
+-- no pattern stands twice
 abbrev pub Distinct : List ℕ → Type 0
 Distinct l = (i j : ℕ) → i < length l → j < length l → getD l i 0 ≡ getD l j 0 → i ≡ j
 
--- no word marks (0,0)
+-- no pattern marks (0,0)
 abbrev pub OriginUnmarked : ℕ → List ℕ → Type 0
 OriginUnmarked n l = (i : ℕ) → i < length l → mark n (getD l i 0) 0 0 ≡ false
 

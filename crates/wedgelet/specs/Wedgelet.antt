@@ -32,7 +32,7 @@ candidate n s e = pattern n (beside (pointX n s) (pointY n s) (pointX n e) (poin
 abbrev pub unmarked : ℕ → ℕ → ℕ
 unmarked n w = cond (mark n w 0 0) (complement n w) w
 
--- the word of the candidate (s, e)
+-- the pattern of the candidate (s, e)
 unfoldable pub wedgelet : ℕ → ℕ → ℕ → ℕ
 wedgelet n s e = unmarked n (candidate n s e)
 
@@ -41,7 +41,7 @@ unfoldable pub holds : List ℕ → ℕ → Bool
 holds [] w = false
 holds (a ∷ l) w = eqb a w || holds l w
 
--- a word is added at the end, unless it is zero or in the list already
+-- a pattern is added at the end, unless it is zero or in the list already
 unfoldable pub keep : List ℕ → ℕ → List ℕ
 keep l w = cond (eqb w 0 || holds l w) l (l ++ (w ∷ []))
 

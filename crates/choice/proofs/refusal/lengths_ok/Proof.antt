@@ -30,4 +30,4 @@ returns-4 c =
     (c .count-ok .ensures)
 
 pub lengths-ok-spec : {M : Type 1} → statement M
-lengths-ok-spec = tie.close (tie.spec (λ c. search needs) returns mul-if2 returns-2 (λ c κs. search needs) returns-3 (λ c κs. tt) returns-4)
+lengths-ok-spec = tie.close (tie.spec (λ c. search needs) returns mul-if2 returns-2 (λ c. search needs) (λ c κs. tt) returns-3 (λ c κs. tt) returns-4)

@@ -1,3 +1,4 @@
+-- `fields_of` meets its contract, field by field.
 use mathlib.Core.Path.{_∙_}
 use mir.Syntax.{w32}
 use mir.Val.{SFits}

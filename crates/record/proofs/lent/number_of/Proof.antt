@@ -1,3 +1,4 @@
+-- `number_of` meets its contract, by whether the number can be lent.
 use Rattle.record.proofs.LentLaws.{number-low, number-high}
 use borrow.Author.Needs.{needs}
 use Rattle.record.proofs.lent.number_of.Statement.{statement}

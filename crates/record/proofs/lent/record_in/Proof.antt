@@ -1,3 +1,4 @@
+-- `record_in` meets its contract, field by field.
 use mathlib.Core.Path.{_∙_, ap}
 use lib.IntN.{pos}
 use lib.ListN.{getD}

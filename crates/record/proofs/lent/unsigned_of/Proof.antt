@@ -1,3 +1,4 @@
+-- `unsigned_of` meets its contract, by its sign.
 use mir.Syntax.{w32}
 use mir.ValLaws.{toZ-ofZ}
 use Rattle.record.proofs.LentLaws.{unsigned-fits, unsigned-none, unsigned-some}

@@ -1,3 +1,4 @@
+-- `contour_meaning` meets its contract, the two checks in order.
 use mathlib.Core.Path.{_≡_, refl}
 use mathlib.Core.List.{[], _∷_}
 use lib.Dec.{eqb}

@@ -1,3 +1,4 @@
+-- `listed_meaning` meets its contract, the two checks in order.
 use mathlib.Core.Path.{_≡_, refl, ap, _∙_}
 use mathlib.Core.List.{[], _∷_}
 use lib.Dec.{ltb}

@@ -1,3 +1,4 @@
+-- `meaning_of` meets its contract, by the kind.
 use Rattle.record.proofs.MeaningLaws.{meaning-by, meaning-other}
 use borrow.Author.Needs.{needs}
 use Rattle.record.proofs.meaning.meaning_of.Statement.{statement}

@@ -1,3 +1,4 @@
+-- `offset_refusal` meets its contract, both offsets in order.
 use mathlib.Core.Path.{_∙_, ap, refl}
 use mir.Syntax.{w32}
 use mir.Val.{SFits}

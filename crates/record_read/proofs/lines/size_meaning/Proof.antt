@@ -15,16 +15,16 @@ returns : tie.Need-returns
 returns c = let a = c .before .before .args in size-sides (a .texture) (a .z) (c .before .new-refusal .ensures) (c .if1 .taken)
 
 returns-2 : tie.Need-returns-2
-returns-2 c = let a = c .before .before .before .before .args in rw (size-rest (a .texture) (a .z) (sides (c .before .before)), sym (c .before .texture-ok .ensures) ∙ not-true _ (c .if2 .taken))
+returns-2 c = let a = c .before .before .before .before .args in rw (size-rest (a .texture) (a .z) (sides (c .before .before)), sym (c .before .sheet-texture-ok .ensures) ∙ not-true _ (c .if2 .taken))
 
 returns-3 : tie.Need-returns-3
-returns-3 c = let a = c .before .before .before .before .before .before .args in rw (size-rest (a .texture) (a .z) (sides (c .before .before .before .before)), sym (c .before .before .before .texture-ok .ensures) ∙ not-false _ (c .before .before .if2 .left), lt-leb 1 (a .z .values) (c .if3 .taken))
+returns-3 c = let a = c .before .before .before .before .before .before .args in rw (size-rest (a .texture) (a .z) (sides (c .before .before .before .before)), sym (c .before .before .before .sheet-texture-ok .ensures) ∙ not-false _ (c .before .before .if2 .left), lt-leb 1 (a .z .values) (c .if3 .taken))
 
 returns-4 : tie.Need-returns-4
-returns-4 c = let a = c .before .before .before .before .before .before .before .before .args in rw (size-rest (a .texture) (a .z) (sides (c .before .before .before .before .before .before)), sym (c .before .before .before .before .before .texture-ok .ensures) ∙ not-false _ (c .before .before .before .before .if2 .left), le-leb 1 (a .z .values) (c .before .before .if3 .left), lt-leb (a .z .values) 256 (c .if4 .taken))
+returns-4 c = let a = c .before .before .before .before .before .before .before .before .args in rw (size-rest (a .texture) (a .z) (sides (c .before .before .before .before .before .before)), sym (c .before .before .before .before .before .sheet-texture-ok .ensures) ∙ not-false _ (c .before .before .before .before .if2 .left), le-leb 1 (a .z .values) (c .before .before .if3 .left), lt-leb (a .z .values) 256 (c .if4 .taken))
 
 returns-5 : tie.Need-returns-5
-returns-5 c = let a = c .before .before .before .before .before .before .before .before .args in rw (size-rest (a .texture) (a .z) (sides (c .before .before .before .before .before .before)), sym (c .before .before .before .before .before .texture-ok .ensures) ∙ not-false _ (c .before .before .before .before .if2 .left), le-leb 1 (a .z .values) (c .before .before .if3 .left), le-leb (a .z .values) 256 (c .if4 .left))
+returns-5 c = let a = c .before .before .before .before .before .before .before .before .args in rw (size-rest (a .texture) (a .z) (sides (c .before .before .before .before .before .before)), sym (c .before .before .before .before .before .sheet-texture-ok .ensures) ∙ not-false _ (c .before .before .before .before .if2 .left), le-leb 1 (a .z .values) (c .before .before .if3 .left), le-leb (a .z .values) 256 (c .if4 .left))
 
 pub size-meaning-spec : {M : Type 1} → statement M
 size-meaning-spec =

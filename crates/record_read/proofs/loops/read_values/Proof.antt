@@ -10,7 +10,7 @@ use Rattle.record_text.specs.Line.{valueLine}
 use Rattle.record_text.specs.Lines.{line, read}
 use Rattle.record_text.specs.Told.{remaining}
 use Rattle.record_file.specs.Reading.{valueMeaning, lowAfter, valueLines}
-use Rattle.record_read.specs.Told.{valueTold}
+use Rattle.record_read.specs.Told.{valueLineTold}
 use Rattle.record_read.proofs.ReadLaws.{Going, going-start, going-more, going-refused, going-end, loop-refused, loop-read, value-byte, stored-value}
 use Rattle.record_read.proofs.loops.read_values.Statement.{statement}
 use Rattle.record_read.proofs.loops.read_values.Tie as tie
@@ -25,7 +25,7 @@ abbrev μ-loop : tie.MeasureT-loop
 
 -- a value that was read, and its line
 found-value : (c : tie.After-one Inv-loop μ-loop) → let l = c .before .before .before .before .loop in let v = c .one .given .0 in let s = c .before .before .before .before .before .before .before .args .bytes .now in read (v .0) (remaining s (v .1 .0)) ≡ line (4 + l .i) (valueLine (remaining s (l .next))) (valueMeaning (l .low)) read
-found-value c = sym (ap (valueTold _) (c .one .given .1)) ∙ c .before .before .value-line .ensures
+found-value c = sym (ap (valueLineTold _) (c .one .given .1)) ∙ c .before .before .value-line .ensures
 
 byte : (c : tie.After-one Inv-loop μ-loop) → c .one .given .0 .0 < 256
 byte c = let l = c .before .before .before .before .loop in value-byte (4 + l .i) (l .low) (valueLine (remaining (c .before .before .before .before .before .before .before .args .bytes .now) (l .next))) (found-value c)
@@ -45,7 +45,7 @@ returns c =
     let l = c .before .before .before .before .before .loop in
     loop-refused (sets (d .args .table .now) 0) (valueLines (d .args .m) 4 (remaining (d .args .bytes .now) (d .args .from))) (l .table)
     (going-refused valueLine valueMeaning lowAfter (d .args .m) 4 0 (remaining (d .args .bytes .now) (d .args .from)) (l .inv .0) (c .before .before .before .before .loop-test .taken)
-    (sym (ap (valueTold _) (c .before .one2 .given .1)) ∙ c .before .before .before .value-line .ensures))
+    (sym (ap (valueLineTold _) (c .before .one2 .given .1)) ∙ c .before .before .before .value-line .ensures))
 
 loop-again : tie.Need-loop-again Inv-loop μ-loop
 loop-again c =

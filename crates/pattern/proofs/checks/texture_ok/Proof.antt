@@ -1,7 +1,7 @@
 -- `texture_ok` meets its contract, case by case.
 use borrow.Author.Tests.{eq-eqb, ne-eqb}
-use Rattle.sheet.proofs.lent.texture_ok.Statement.{statement}
-use Rattle.sheet.proofs.lent.texture_ok.Tie as tie
+use Rattle.pattern.proofs.checks.texture_ok.Statement.{statement}
+use Rattle.pattern.proofs.checks.texture_ok.Tie as tie
 
 returns : tie.Need-returns
 returns c = rw (eq-eqb _ _ (c .if1 .taken))
