@@ -33,7 +33,8 @@ pub(crate) enum SizeBack {
 
 // The line k of a table value that is to be at least `low`.
 pub(crate) fn value_line(bytes: &[u8], from: Cursor, low: u32, k: u32) -> ValueRead
-    ensures { λ r. ⌜ valueLineTold (now (bytes .entry)) r ≡ line k (valueLine (remaining (now (bytes .entry)) from)) (valueMeaning low) read ⌝ }
+    ensures { λ r. let s = now (bytes .entry) in
+        ⌜ valueLineTold s r ≡ line k (valueLine (remaining s from)) (valueMeaning low) read ⌝ }
 {
     let a = read_value_line(bytes, from);
     let NumberRead::Value(v, next) = a else {
