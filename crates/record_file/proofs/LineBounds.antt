@@ -1,14 +1,14 @@
 -- How far a file goes: its blocks, and the refusals of reading, of which none has the number 0 or a line past the one after the last of
 -- 256 values and 1,024 records.
-use Prim.Native.Nat.{ℕ, zero, suc, _+_, _/_, _≤_, _<_}
+use Prim.Native.Nat.{ℕ, zero, suc, _+_, _≤_, _<_}
 use mathlib.Core.Path.{_≡_, refl, sym, _∙_, ap}
 use mathlib.Core.List.{List, [], _∷_}
-use native.Mathlib.Nat.{div-add-mod', mul-le-mul}
 use native.Mathlib.Omega.{arith}
 use lib.ListN.{length}
 use Rattle.arith.specs.Checks.{refusal}
 use Rattle.depth_table.specs.Table.{mostValues}
-use Rattle.sheet_grid.specs.Grid.{longest, mostBlocks, blocks}
+use Rattle.sheet_grid.specs.Grid.{mostBlocks}
+use Rattle.sheet_grid.proofs.GridLaws.{records-few}
 use Rattle.record_text.specs.declared.fields.SizeFields.{SizeFields}
 use Rattle.record_text.specs.Parsed.{Parsed, Parser, badForm, found, exactly}
 use Rattle.record_text.specs.Line.{sizeTitle, depthTitle, recordTitle, sizeLine, valueLine, recordLine}
@@ -20,19 +20,10 @@ use Rattle.record_file.proofs.FileLaws.{size-small, front-parts}
 
 -- ---- a sheet has at most 1,024 blocks
 
-per-few : (n w : ℕ) → 4 ≤ n → w ≤ longest → w / n ≤ 32
-per-few n w h l =
-    let e = div-add-mod' w n in
-    let k = mul-le-mul {n₁ = w / n} {m₁ = 4} {n₂ = w / n} {m₂ = n} (omega arith) h in
-    omega arith
-
-pub blocks-most : (n w h : ℕ) → 4 ≤ n → w ≤ longest → h ≤ longest → blocks n w h ≤ mostBlocks
-blocks-most n w h l a b = mul-le-mul {n₁ = w / n} {m₁ = h / n} {n₂ = 32} {m₂ = 32} (per-few n w l a) (per-few n h l b)
-
 pub blocks-few : (texture : ℕ) (z : SizeFields) → sizeMeaning texture z ≡ 0 → blocksIn z ≤ mostBlocks
 blocks-few texture z h =
     let s = size-small texture z h in
-    blocks-most (z .n) (z .width) (z .height) (s .low) (s .width) (s .height)
+    records-few (z .n) (z .width) (z .height) (s .low) (s .width) (s .height)
 
 -- ---- refusals
 

@@ -16,8 +16,8 @@ use Rattle.pattern.proofs.WordLaws.{length-patterns}
 use Rattle.record.specs.declared.Record.{Record}
 use Rattle.record.specs.Lent.{fieldsOf}
 use Rattle.sheet_grid.specs.Grid.{longest, mostSamples, mostBlocks}
+use Rattle.sheet_grid.proofs.GridLaws.{blocks-by-area}
 use Rattle.sheet.specs.State.{blocksOf}
-use Rattle.sheet.specs.Place.{placedInTurn}
 use Rattle.record_text.specs.Lines.{Lined, refusedAt, read, linesThen}
 use Rattle.record_file.specs.Reading.{File, fileOf, Aids, aidsOf, frontLines, fileLines, listsOk, readLengthsOk, readFile}
 use Rattle.record_file.proofs.FileLaws.{size-small, file-wrote}
@@ -29,10 +29,11 @@ use Rattle.record_text.specs.declared.cursor.Cursor.{Cursor}
 use Rattle.record_read.specs.declared.loops.LinesRead.{LinesRead}
 use Rattle.record_read.specs.declared.loops.LinesRead.the-variants as linesRead
 use Rattle.record_read.specs.Told.{only, PutIf, frontSize}
-use Rattle.record_read.specs.Back.{materialFor, inTurn, recordsOver, samplesBack, fileBack, Lent, lentOf, leaving, Leaves}
-use Rattle.record_read.specs.Step.{oneList, Begun, FrontRead, Counted, begunAt, tableOf, areaOf, blockLines, withFront, sheetLines, backBy}
+use Rattle.record_read.specs.Back.{materialFor, inTurn, drawnOn, samplesBack, fileBack, Lent, lentOf, leaving, Leaves}
+use Rattle.record_read.specs.Step.{oneList, Begun, FrontRead, Counted, HasRoom, begunAt, tableOf, areaOf, blockLines, withFront, sheetLines, backBy}
 use Rattle.record_read.specs.Step.{Left, placedAll, ReadsAll}
 use Rattle.record_read.proofs.FrontLaws.{only-refused, only-read}
+use Rattle.record_read.proofs.EmptyLaws.{empty-same}
 use Rattle.record_read.proofs.RestLaws.{size-placeable}
 
 -- ---- the lengths
@@ -94,17 +95,6 @@ module _ {A : Type 0} (from to : List A) (m : ℕ) where
   pub copy-end : (i : ℕ) {l : List A} → Copying l i → m ≤ i → l ≡ take m from ++ drop m to
   copy-end i c h = let e : i ≡ m = omega (arith, c .1) in c .0 ∙ ap (λ (j : ℕ). take j from ++ drop j to) e
 
-abbrev pub zeros : ℕ → List ℕ
-zeros m = replicate m 0
-
-abbrev pub noRecords : List (List ℤ)
-noRecords = replicate mostBlocks (replicate 4 (pos 0))
-
-take-zeros : (k m : ℕ) → k ≤ m → take k (zeros m) ≡ zeros k
-take-zeros zero m h = refl
-take-zeros (suc k) zero h = absurd (omega arith)
-take-zeros (suc k) (suc m) h = ap (λ (l : List ℕ). 0 ∷ l) (take-zeros k m (omega arith))
-
 -- ---- after the lines before the records
 
 pub table-first : (t : List ℕ) → length t ≤ mostValues → take (length t) (sets (replicate mostValues 0) 0 t) ≡ t
@@ -138,7 +128,7 @@ module _ (A : Aids) (s : List ℕ) (f : Front) (front : FrontRead (length (A .te
   table-is : tableOf f ≡ front .table
   table-is = rw (← (front .count), front .held) (table-first (front .table) (omega (arith, values-few, front .count)))
 
-  pub begun : (records : ℕ) → Counted A (f .n) → mostBlocks ≤ records → Begun A (tableOf f) (begunAt f) (areaOf f) records
+  pub begun : (records : ℕ) → Counted A (f .n) → blocksOf (begunAt f .sheet) ≤ records → Begun A (tableOf f) (begunAt f) (areaOf f) records
   begun records counted room =
       record {
         empty = refl;
@@ -152,20 +142,26 @@ module _ (A : Aids) (s : List ℕ) (f : Front) (front : FrontRead (length (A .te
   unfolding fileLines
   file-is = rw (front .is, table-is)
 
-  -- all is read: what is copied to the lent slices
-  abbrev first : Left
-  first = (take (areaOf f) (zeros mostSamples), noRecords)
-
-  abbrev placed : List Record → Left
-  placed l = placedAll (materialFor A (f .n) (tableOf f)) (begunAt f .sheet) first (blocksOf (begunAt f .sheet)) l
-
   -- as much is copied as the answered sheet has
   pub back-few :
-      (t : LinesRead) {r : FileBack} → r ≡ backBy f t → (r .sheet .width * r .sheet .height ≤ mostSamples) × (r .sheet .placed ≤ mostBlocks)
+      (t : LinesRead) {r : FileBack} → r ≡ backBy f t → (r .sheet .width * r .sheet .height ≤ areaOf f) × (r .sheet .placed ≤ blocksOf (begunAt f .sheet))
   back-few (linesRead.Refused n k) e = rw e (omega arith, omega arith)
-  back-few (linesRead.Done c) e = rw e (area-few, blocks-fit)
+  back-few (linesRead.Done c) e = rw e (omega arith, omega arith)
 
-  module _ (drawn : List ℕ) (kept : List (List ℤ)) (before : Lent) where
+  -- where a small sheet's samples have room, so have its blocks
+  pub small-room : {samples records : ℕ} → areaOf f ≤ samples → samples ≤ records * 16 → HasRoom f samples records
+  small-room h k =
+      let s = size-small (length (A .texture)) (frontSize f) (front .size) in
+      record { samples-in = h; records-in = omega (arith, blocks-by-area (f .n) (f .width) (f .height) (s .low)) }
+
+  -- all is read, with what the local samples and records were, and what they are: it is copied to the lent slices
+  module _ (drawn₀ drawn : List ℕ) (kept₀ kept : List (List ℤ)) (before : Lent) (room : areaOf f ≤ length drawn₀) where
+    abbrev first : Left
+    first = (take (areaOf f) drawn₀, kept₀)
+
+    abbrev placed : List Record → Left
+    placed l = placedAll (materialFor A (f .n) (tableOf f)) (begunAt f .sheet) first (blocksOf (begunAt f .sheet)) l
+
     abbrev Copied : List ℕ → List (List ℤ) → FileBack → Type 0
     Copied samples records b =
         (samples ≡ take (b .sheet .width * b .sheet .height) drawn ++ drop (b .sheet .width * b .sheet .height) (before .samples))
@@ -181,15 +177,16 @@ module _ (A : Aids) (s : List ℕ) (f : Front) (front : FrontRead (length (A .te
           let S = begunAt f .sheet in
           let M = materialFor A (f .n) (tableOf f) in
           let F = fileOf (f .n) (f .width) (f .height) (tableOf f) l in
+          let z = size-small (length (A .texture)) (frontSize f) (front .size) in
           let whole : length l ≡ blocksOf S = file-wrote A F s u (file-is ∙ rw is) .sound .whole in
           let long : length (tableOf f) ≡ f .values = ap length table-is ∙ front .count in
           let array : sets (replicate mostValues 0) 0 (tableOf f) ≡ f .table =
           ap (sets (replicate mostValues 0) 0) table-is ∙ sym (front .held) in
           let stored : take (blocksOf S) kept ≡ map fieldsOf l =
           ap (λ (x : Left). take (blocksOf S) (x .1)) left ∙ take-at (map fieldsOf l) _ (blocksOf S) (length-map l fieldsOf ∙ whole) in
-          let painted : take (areaOf f) drawn ≡ placedInTurn S M (inTurn l) (zeros (areaOf f)) (blocksOf S) =
+          let painted : take (areaOf f) drawn ≡ drawnOn S M (inTurn l) =
           ap (λ (x : Left). x .0) left
-          ∙ ap (λ (x : List ℕ). placedInTurn S M (inTurn l) x (blocksOf S)) (take-zeros (areaOf f) mostSamples area-few) in
+          ∙ empty-same (f .n) (f .width) (f .height) (z .size) (z .sides) M (inTurn l) (take (areaOf f) drawn₀) (length-take-le (areaOf f) drawn₀ room) in
           rw is
           (record {
             answered = e ∙ rw (long, array);

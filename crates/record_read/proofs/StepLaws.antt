@@ -20,7 +20,7 @@ use Rattle.sheet.specs.Place.{Material, Fits, placeRefusalBy, placedSamples, pl
 use Rattle.sheet.specs.Compose.{missing}
 use Rattle.sheet.proofs.TurnLaws.{after-more}
 use Rattle.sheet_grid.specs.Grid.{mostBlocks}
-use Rattle.record_file.proofs.LineBounds.{blocks-most}
+use Rattle.sheet_grid.proofs.GridLaws.{records-few}
 use Rattle.record_text.specs.Parsed.{badForm, found}
 use Rattle.record_text.specs.Line.{recordLine}
 use Rattle.record_text.specs.Lines.{Lined, refusedAt, read, line, linesThen, ended}
@@ -111,7 +111,7 @@ placed-more S M s l f {t} {v} {i} c e d =
 
 -- a sheet has at most 1,024 blocks
 pub few-blocks : (S : Sheet) → Open S → blocksOf S ≤ mostBlocks
-few-blocks S o = blocks-most (S .n) (S .width) (S .height) (o .low) (o .narrow) (o .short)
+few-blocks S o = records-few (S .n) (S .width) (S .height) (o .low) (o .narrow) (o .short)
 
 reading-is : (q : Reading) {k : ℕ} {u : Sheet} → q .line ≡ k → q .sheet ≡ u → q ≡ record { at = q .at; line = k; sheet = u }
 reading-is q e f = rw (← e, ← f)

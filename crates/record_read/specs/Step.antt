@@ -8,7 +8,6 @@ use lib.Seq.{sets}
 use Rattle.depth_table.specs.Table.{mostValues}
 use Rattle.pattern.specs.Words.{patternsOf}
 use Rattle.record.specs.declared.Record.{Record}
-use Rattle.sheet_grid.specs.Grid.{mostBlocks}
 use Rattle.sheet.specs.State.{stateOf, after, blocksOf, finished}
 use Rattle.sheet.specs.declared.Sheet.{Sheet}
 use Rattle.sheet.specs.Place.{Material, Fits, placedSamples, placedInTurn}
@@ -52,7 +51,7 @@ pub record Steps (A : Aids) (table : List ℕ) (r : Reading) (s old new : List �
 pub record Begun (A : Aids) (table : List ℕ) (r : Reading) (samples records : ℕ) : Type 0 where
   pub empty : r .sheet .placed ≡ 0
   pub placeable : Fits (r .sheet) (materialFor A (r .sheet .n) table) samples
-  pub room : mostBlocks ≤ records
+  pub room : blocksOf (r .sheet) ≤ records
   pub low : r .line ≤ 1000
 
 abbrev pub blockLines : Aids → Reading → List ℕ → Lined (List Record)
@@ -94,6 +93,11 @@ tableOf f = take (f .values) (f .table)
 
 abbrev pub areaOf : Front → ℕ
 areaOf f = f .width * f .height
+
+-- so many samples and records have room for the sheet
+pub record HasRoom (f : Front) (samples records : ℕ) : Type 0 where
+  pub samples-in : areaOf f ≤ samples
+  pub records-in : blocksOf (begunAt f .sheet) ≤ records
 
 -- the file that the lines after them give
 abbrev pub withFront : Front → Lined (List Record) → Lined File

@@ -11,7 +11,7 @@ ghost use Rattle.sheet.specs.State.{blocksOf};
 ghost use Rattle.record_text.specs.Lines.{refusedAt};
 ghost use Rattle.record_file.specs.Reading.{aidsOf, readLengthsOk};
 ghost use Rattle.record_read.specs.Back.{fileBack, lentOf, Leaves, Reads};
-ghost use Rattle.record_read.specs.Step.{oneList, FrontRead, Counted, begunAt, tableOf, areaOf};
+ghost use Rattle.record_read.specs.Step.{oneList, FrontRead, Counted, HasRoom, begunAt, tableOf, areaOf};
 ghost use Rattle.record_read.specs.Step.{sheetLines, backBy, Left, ReadsAll};
 use crate::blocks::Reading;
 use crate::blocks::read_blocks;
@@ -29,6 +29,11 @@ use record_file::list_for;
 use sheet::MOST_BLOCKS;
 use sheet::MOST_SAMPLES;
 use sheet::Sheet;
+
+// A sheet of at most so many samples is read as a small one; it has at most so many blocks.
+const SMALL_SAMPLES: usize = 1024;
+
+const SMALL_BLOCKS: usize = 64;
 
 // Whether each list's count is one that its whole patterns allow.
 fn lists_ok(
@@ -132,7 +137,7 @@ fn read_rest(
     records: &mut [[i32; 4]],
 ) -> LinesRead
     requires { ⌜ (FrontRead (length (now texture)) (now bytes) front) × (Counted (oneList (now list) count (now texture)) (front .n)) ⌝ }
-    requires { ⌜ (mostSamples ≤ length (now samples)) × (mostBlocks ≤ length (now records)) ⌝ }
+    requires { ⌜ HasRoom front (length (now samples)) (length (now records)) ⌝ }
     ensures { λ t.
         let A = oneList (now (list .entry)) count (now (texture .entry)) in
         let old : Left = (take (areaOf front) (now (samples .entry)), now (records .entry)) in
@@ -164,8 +169,36 @@ fn read_rest(
     )
 }
 
-// The sheet after the lines before its records. It is read into arrays of this function, and as much of it is copied to what is lent as the
+// The sheet after the lines before its records. It is read into `drawn` and `kept`, and as much of it is copied to what is lent as the
 // answered sheet has: nothing where a line is refused.
+fn read_and_copy(
+    bytes: &[u8],
+    front: Front,
+    list: &[u64],
+    count: usize,
+    texture: &[u8],
+    drawn: &mut [u8],
+    kept: &mut [[i32; 4]],
+    samples: &mut [u8],
+    records: &mut [[i32; 4]],
+) -> FileBack
+    requires { ⌜ (FrontRead (length (now texture)) (now bytes) front) × (Counted (oneList (now list) count (now texture)) (front .n)) ⌝ }
+    requires { ⌜ HasRoom front (length (now drawn)) (length (now kept)) ⌝ }
+    requires { ⌜ (length (now drawn) ≤ length (now samples)) × (length (now kept) ≤ length (now records)) ⌝ }
+    ensures { λ r.
+        let A = oneList (now (list .entry)) count (now (texture .entry)) in
+        let before = lentOf (now (samples .entry)) (now (records .entry)) in
+        ⌜ Leaves A (sheetLines A front (now (bytes .entry))) before r (lentOf (now (samples .exit)) (now (records .exit))) ⌝ }
+{
+    let rest = read_rest(bytes, front, list, count, texture, drawn, kept);
+    let back = told_back(rest, front);
+    let area = back.sheet.width as usize * back.sheet.height as usize;
+    copy_samples(samples, drawn, area);
+    copy_records(records, kept, back.sheet.placed as usize);
+    back
+}
+
+// The same with arrays of this function, which are cleared for each file: short ones where the sheet is small.
 fn read_sheet(
     bytes: &[u8],
     front: Front,
@@ -182,14 +215,35 @@ fn read_sheet(
         let before = lentOf (now (samples .entry)) (now (records .entry)) in
         ⌜ Leaves A (sheetLines A front (now (bytes .entry))) before r (lentOf (now (samples .exit)) (now (records .exit))) ⌝ }
 {
-    let mut drawn = [0u8; MOST_SAMPLES];
-    let mut kept = [[0i32; 4]; MOST_BLOCKS];
-    let rest = read_rest(bytes, front, list, count, texture, &mut drawn, &mut kept);
-    let back = told_back(rest, front);
-    let area = back.sheet.width as usize * back.sheet.height as usize;
-    copy_samples(samples, &drawn, area);
-    copy_records(records, &kept, back.sheet.placed as usize);
-    back
+    let area = front.width as usize * front.height as usize;
+    if SMALL_SAMPLES < area {
+        let mut drawn = [0u8; MOST_SAMPLES];
+        let mut kept = [[0i32; 4]; MOST_BLOCKS];
+        return read_and_copy(
+            bytes,
+            front,
+            list,
+            count,
+            texture,
+            &mut drawn,
+            &mut kept,
+            samples,
+            records,
+        );
+    }
+    let mut drawn = [0u8; SMALL_SAMPLES];
+    let mut kept = [[0i32; 4]; SMALL_BLOCKS];
+    read_and_copy(
+        bytes,
+        front,
+        list,
+        count,
+        texture,
+        &mut drawn,
+        &mut kept,
+        samples,
+        records,
+    )
 }
 
 // Reads a file with a list for each size: its records, and the samples that placing them in turn on an empty sheet gives, come into the

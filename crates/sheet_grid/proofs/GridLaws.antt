@@ -1,6 +1,6 @@
 -- Laws of blocks and where they lie.
 use Prim.Native.Nat.{ℕ, suc, _+_, _-_, _*_, _/_, _%_, _^_, _≤_, _<_}
-use native.Mathlib.Nat.{mul-le-mul, mul-le-mul-right, suc-mul, mod-lt, div-mul-le-self, div-le-self, div-lt-iff-lt-mul, le-div-iff-mul-le, le-mul-of-pos-right, mul-comm}
+use native.Mathlib.Nat.{mul-le-mul, mul-le-mul-right, suc-mul, mod-lt, div-mul-le-self, div-le-self, div-lt-iff-lt-mul, le-div-iff-mul-le, le-mul-of-pos-right, mul-comm, mul-mul-mul-comm}
 use native.Mathlib.Omega.{arith}
 use lib.Arith.{digits-lt}
 use Rattle.arith.specs.Square.{place}
@@ -15,15 +15,18 @@ per-pos n w a b = le-div-iff-mul-le a .1 (omega (arith, suc-mul 0 n))
 pub blocks-few : (n w h : ℕ) → blocks n w h ≤ w * h
 blocks-few n w h = mul-le-mul (div-le-self w n) (div-le-self h n)
 
--- nor more than the greatest sheet has of the least size
-pub records-few : (n w h : ℕ) → 4 ≤ n → w ≤ longest → h ≤ longest → blocks n w h ≤ mostBlocks
-records-few n w h low wide tall = mul-le-mul {n₁ = w / n} {m₁ = h / n} {n₂ = longest / 4} {m₂ = longest / 4} (along w wide) (along h tall)
+-- a block has at least 16 samples
+pub blocks-by-area : (n w h : ℕ) → 4 ≤ n → blocks n w h * 16 ≤ w * h
+blocks-by-area n w h low =
+    rw (← (mul-mul-mul-comm (w / n) 4 (h / n) 4)) (mul-le-mul {n₁ = w / n * 4} {m₁ = h / n * 4} {n₂ = w} {m₂ = h} (along w) (along h))
   where
-    along : (side : ℕ) → side ≤ longest → side / n ≤ longest / 4
-    along side l =
-        let p : side < suc (longest / 4) * n = omega (arith, mul-le-mul {n₁ = 33} {m₁ = 4} {n₂ = 33} {m₂ = n} (omega arith) low) in
-        let q : side / n < suc (longest / 4) = div-lt-iff-lt-mul {k = n} {x = side} {y = suc (longest / 4)} (omega arith) .1 p in
-        omega arith
+    along : (side : ℕ) → side / n * 4 ≤ side
+    along side = omega (arith, div-mul-le-self side n, mul-le-mul {n₁ = side / n} {m₁ = 4} {n₂ = side / n} {m₂ = n} (omega arith) low)
+
+-- there are no more than the greatest sheet has of the least size
+pub records-few : (n w h : ℕ) → 4 ≤ n → w ≤ longest → h ≤ longest → blocks n w h ≤ mostBlocks
+records-few n w h low wide tall =
+    omega (arith, blocks-by-area n w h low, mul-le-mul {n₁ = w} {m₁ = h} {n₂ = longest} {m₂ = longest} wide tall)
 
 -- a block ends inside the width
 pub across-inside : (n w k : ℕ) → 1 ≤ n → n ≤ w → blockX n w k + n ≤ w

@@ -44,7 +44,7 @@ few : (c : tie.In-loop Inv-loop μ-loop) → c .before .loop .i < 1024
 few c = let d = begin (c .before) in omega (arith, more c, few-blocks (d .args .from .sheet) (d .pre .placeable .is-open))
 
 room : (c : tie.In-loop Inv-loop μ-loop) → c .before .loop .i < length (begin (c .before) .args .records .now)
-room c = omega (arith, few c, begin (c .before) .pre .room)
+room c = omega (arith, more c, begin (c .before) .pre .room)
 
 read-block-requires : tie.Need-read-block-requires Inv-loop μ-loop
 read-block-requires c κs =

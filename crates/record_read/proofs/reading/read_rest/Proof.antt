@@ -16,7 +16,7 @@ aids d = oneList (d .args .list .now) (d .args .count) (d .args .texture .now)
 
 -- there is room for the sheet's samples
 room : (d : tie.Start) → areaOf (d .args .front) ≤ length (d .args .samples .now)
-room d = omega (arith, area-few (aids d) (d .args .bytes .now) (d .args .front) (d .pre .0 .0), d .pre .1 .0)
+room d = d .pre .1 .samples-in
 
 mul-area : tie.Need-mul-area
 mul-area c =
@@ -50,7 +50,7 @@ read-blocks-requires c κs =
     let d = c .before .before .before .before .before .before .before .before .before .before .before .before in
     let a = d .args in
     rw (length-take-le (areaOf (a .front)) (a .samples .now) (room d))
-    (begun (aids d) (a .bytes .now) (a .front) (d .pre .0 .0) (length (a .records .now)) (d .pre .0 .1) (d .pre .1 .1))
+    (begun (aids d) (a .bytes .now) (a .front) (d .pre .0 .0) (length (a .records .now)) (d .pre .0 .1) (d .pre .1 .records-in))
 
 same-length : tie.Need-same-length
 same-length c = search needs
