@@ -1,20 +1,20 @@
 -- The steps of writing as the code takes them: texts that are written one after the other, and a numeral digit by digit.
-use Prim.Native.Nat.{ℕ, zero, suc, _+_, _-_, _/_, _%_, _^_, _≤_, _<_}
-use mathlib.Core.Path.{_≡_, refl, _∙_, ap, subst}
+use Prim.Native.Nat.{ℕ, zero, suc, _+_, _-_, _*_, _/_, _%_, _^_, _≤_, _<_}
+use mathlib.Core.Path.{_≡_, refl, sym, _∙_, ap, subst}
 use mathlib.Core.Bool.{true, false}
 use mathlib.Core.List.{List, [], _∷_, _++_}
 use native.Mathlib.Omega.{arith}
 use native.Mathlib.Numerals.{add-one}
-use native.Mathlib.Nat.{add-zero, add-suc, suc-add, mod-lt}
+use native.Mathlib.Nat.{add-zero, add-suc, suc-add, mod-lt, pow-suc, mul-assoc, div-add-mod'}
 use lib.IntN.{ℤ, pos, negsuc, natAbs}
 use lib.ListN.{length, set, length-append}
-use lib.Seq.{sets, length-sets}
+use lib.Seq.{set-comm, sets, length-sets}
 use lib.Signed.{ltZ}
 use borrow.Author.Tests.{ltb-true}
 use Rattle.arith.proofs.Bools.{clash}
 use Rattle.record_text.specs.Numeral.{digitsOf, signedNumeral}
 use Rattle.record_text.specs.Field.{numberText, signedText}
-use Rattle.record_text.proofs.NumeralLaws.{ten-pow, digit-lt}
+use Rattle.record_text.proofs.NumeralLaws.{ten-pow, digit-before, length-digits}
 use Rattle.record_print.specs.Put.{Written}
 
 -- ---- one text after the other
@@ -49,29 +49,49 @@ pub room-next :
     {l₀ l₁ v : List ℕ} {p q : ℕ} (w : List ℕ) → p + length (v ++ w) ≤ length l₀ → Written l₀ l₁ p v q → q + length w ≤ length l₁
 room-next {l₀} {l₁} {v} {p} {q} w h a = omega (arith, length-append v w, a .place, written-length a)
 
--- ---- one digit of a numeral
+-- ---- a numeral from its last digit to its first
 
-pub digit-written :
-    (l : List ℕ) (p k r q m : ℕ) → 0 < k → q ≡ r / 10 ^ (k - 1) → m ≡ r % 10 ^ (k - 1)
-    → sets (set l p (48 + q)) (p + 1) (digitsOf (k - 1) m) ≡ sets l p (digitsOf k r)
+-- the last of the digits
+digits-end : (k n : ℕ) → n < 10 ^ suc k → digitsOf (suc k) n ≡ digitsOf k (n / 10) ++ ((48 + n % 10) ∷ [])
 unfolding digitsOf
-digit-written l p zero r q m h e f = absurd (omega arith)
-digit-written l p (suc k) r q m h e f =
+digits-end zero n h = ap (λ (d : ℕ). (48 + d) ∷ []) (omega arith)
+digits-end (suc k) n h =
+    let p = 10 ^ suc k in
+    let d = n / p in
+    let m = n % p in
+    let ten : p ≡ 10 ^ k * 10 = pow-suc 10 k in
+    let whole = div-add-mod' n p in
+    let shifted : d * p ≡ d * 10 ^ k * 10 = ap (λ (x : ℕ). d * x) ten ∙ sym (mul-assoc d (10 ^ k) 10) in
+    let low : m < p = mod-lt n (ten-pow (suc k)) in
+    let before : d * 10 ^ k + m / 10 ≡ n / 10 = omega (arith, whole, shifted) in
+    let last : m % 10 ≡ n % 10 = omega (arith, whole, shifted) in
+    ap (λ (l : List ℕ). (48 + d) ∷ l) (digits-end k m low)
+    ∙ ap (λ (l : List ℕ). l ++ ((48 + m % 10) ∷ [])) (sym (digit-before k d (m / 10) (omega (arith, low, ten))))
+    ∙ rw (before, last)
+
+-- a byte past a text is written before the text, or after it
+byte-first : (vs l : List ℕ) (i j b : ℕ) → i + length vs ≤ j → sets (set l j b) i vs ≡ set (sets l i vs) j b
+byte-first [] l i j b h = refl
+byte-first (a ∷ vs) l i j b h =
+    ap (λ (x : List ℕ). sets x (suc i) vs) (set-comm l j i b a (λ e. omega (arith, e))) ∙ byte-first vs (set l i a) (suc i) j b (omega arith)
+
+-- the last digit is written, and those before it are left
+pub digit-written :
+    (l : List ℕ) (p k n : ℕ) → 0 < k → n < 10 ^ k
+    → sets (set l (p + (k - 1)) (48 + n % 10)) p (digitsOf (k - 1) (n / 10)) ≡ sets l p (digitsOf k n)
+digit-written l p zero n some h = absurd (omega arith)
+digit-written l p (suc k) n some h =
     let z : suc k - 1 ≡ k = omega arith in
-    rw (e, f, z, add-one p)
+    let long = length-digits k (n / 10) in
+    rw (z, digits-end k n h, sets-append (digitsOf k (n / 10)) ((48 + n % 10) ∷ []) l p, long)
+    (byte-first (digitsOf k (n / 10)) l p (p + k) (48 + n % 10) (omega (arith, long)))
 
-pub digit-small : (k r q : ℕ) → 0 < k → q ≡ r / 10 ^ (k - 1) → r < 10 ^ k → q < 10
-digit-small zero r q h e l = absurd (omega arith)
-digit-small (suc k) r q h e l =
+-- what is left has a digit less
+pub rest-small : (k n : ℕ) → 0 < k → n < 10 ^ k → n / 10 < 10 ^ (k - 1)
+rest-small zero n some h = absurd (omega arith)
+rest-small (suc k) n some h =
     let z : suc k - 1 ≡ k = omega arith in
-    rw (e, z) (digit-lt k r l)
-
-pub rest-small : (k r m : ℕ) → m ≡ r % 10 ^ k → m < 10 ^ k
-rest-small k r m e = rw e (mod-lt r (ten-pow k))
-
--- a number below 5 that is none of 0 to 3
-pub four : (k : ℕ) → k < 5 → (k ≡ 0 → ⊥) → (k ≡ 1 → ⊥) → (k ≡ 2 → ⊥) → (k ≡ 3 → ⊥) → k ≡ 4
-four k h a b c d = omega arith
+    rw z (omega (arith, pow-suc 10 k))
 
 -- ---- a signed number's text, by its sign
 

@@ -1,6 +1,6 @@
 // Writing the texts of numbers where there is room.
 ghost use mathlib.Core.Path.{_≡_};
-ghost use Prim.Native.Nat.{suc, _+_, _/_, _%_, _^_, _≤_, _<_};
+ghost use Prim.Native.Nat.{suc, _+_, _≤_, _<_};
 ghost use lib.IntN.{natAbs};
 ghost use lib.ListN.{length};
 ghost use Rattle.record_text.specs.Numeral.{furtherDigits, numeral, numeralEnd};
@@ -11,64 +11,35 @@ ghost use Rattle.record_print.specs.Put.{Written};
 fn digit_count(x: u32) -> u32
     ensures { λ r. ⌜ r ≡ suc (furtherDigits 4 x) ⌝ }
 {
-    if 10000 <= x {
-        return 5;
+    if x < 10 {
+        return 1;
     }
-    if 1000 <= x {
-        return 4;
-    }
-    if 100 <= x {
-        return 3;
-    }
-    if 10 <= x {
+    if x < 100 {
         return 2;
     }
-    1
-}
-
-// The digit of x before its last k, of a number with k + 1 digits.
-fn digit_before(x: u32, k: u32) -> u32
-    requires { ⌜ k < 5 ⌝ }
-    ensures { λ r. ⌜ r ≡ x / 10 ^ k ⌝ }
-{
-    match k {
-        0 => x / 1,
-        1 => x / 10,
-        2 => x / 100,
-        3 => x / 1000,
-        _ => x / 10000,
+    if x < 1000 {
+        return 3;
     }
-}
-
-// Its last k digits.
-fn last_digits(x: u32, k: u32) -> u32
-    requires { ⌜ k < 5 ⌝ }
-    ensures { λ r. ⌜ r ≡ x % 10 ^ k ⌝ }
-{
-    match k {
-        0 => x % 1,
-        1 => x % 10,
-        2 => x % 100,
-        3 => x % 1000,
-        _ => x % 10000,
+    if x < 10000 {
+        return 4;
     }
+    5
 }
 
-// Writes the numeral of x at a place, and answers the place after it.
+// Writes the numeral of x at a place, from its last digit to its first, and answers the place after it.
 fn write_numeral(out: &mut [u8], at: usize, x: u32) -> usize
     requires { ⌜ (x < numeralEnd) × (at + length (numeral x) ≤ length (now out)) ⌝ }
     ensures { λ r. ⌜ Written (now (out .entry)) (now (out .exit)) at (numeral x) r ⌝ }
 {
-    let mut left = digit_count(x);
+    let digits = digit_count(x) as usize;
+    let mut left = digits;
     let mut rest = x;
-    let mut p = at;
     while 0 < left {
         left -= 1;
-        out[p] = (48 + digit_before(rest, left)) as u8;
-        rest = last_digits(rest, left);
-        p += 1;
+        out[at + left] = (48 + rest % 10) as u8;
+        rest /= 10;
     }
-    p
+    at + digits
 }
 
 // Writes a number and the byte `end`.
