@@ -4,7 +4,6 @@ use mathlib.Core.Path.{_≡_, refl, sym, _∙_, ap, subst}
 use mathlib.Core.Bool.{true, false}
 use mathlib.Core.List.{List, [], _∷_, _++_}
 use native.Mathlib.Omega.{arith}
-use native.Mathlib.Numerals.{add-one}
 use native.Mathlib.Nat.{add-zero, add-suc, suc-add, mod-lt, pow-suc, mul-assoc, div-add-mod'}
 use lib.IntN.{ℤ, pos, negsuc, natAbs}
 use lib.ListN.{length, set, length-append}

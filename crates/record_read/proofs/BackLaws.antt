@@ -1,11 +1,11 @@
 -- What `read` answers and leaves, from what its parts do.
-use Prim.Native.Nat.{ℕ, zero, suc, _+_, _*_, _≤_, _<_}
+use Prim.Native.Nat.{ℕ, suc, _+_, _*_, _≤_, _<_}
 use mathlib.Core.Path.{_≡_, refl, sym, _∙_, ap, subst}
 use mathlib.Core.Bool.{true, false}
-use mathlib.Core.List.{List, [], _∷_, _++_, map}
+use mathlib.Core.List.{List, _++_, map}
 use native.Mathlib.Nat.{mul-le-mul}
 use native.Mathlib.Omega.{arith}
-use lib.IntN.{ℤ, pos}
+use lib.IntN.{ℤ}
 use lib.ListN.{length, length-set, getD, set, take, drop, replicate, length-replicate, length-map, length-append, length-drop}
 use lib.Seq.{sets, sets-eq, length-sets, take-at, take-suc, drop-cons, set-at, append-snoc, length-take-le}
 use Rattle.depth_table.specs.Table.{mostValues}
@@ -18,7 +18,7 @@ use Rattle.record.specs.Lent.{fieldsOf}
 use Rattle.sheet_grid.specs.Grid.{longest, mostSamples, mostBlocks}
 use Rattle.sheet_grid.proofs.GridLaws.{blocks-by-area}
 use Rattle.sheet.specs.State.{blocksOf}
-use Rattle.record_text.specs.Lines.{Lined, refusedAt, read, linesThen}
+use Rattle.record_text.specs.Lines.{Lined, refusedAt, read}
 use Rattle.record_file.specs.Reading.{File, fileOf, Aids, aidsOf, frontLines, fileLines, listsOk, readLengthsOk, readFile}
 use Rattle.record_file.proofs.FileLaws.{size-small, file-wrote}
 use Rattle.record_file.proofs.LineBounds.{blocks-few}

@@ -23,7 +23,7 @@ use Rattle.sheet_grid.specs.Grid.{mostBlocks}
 use Rattle.sheet_grid.proofs.GridLaws.{records-few}
 use Rattle.record_text.specs.Parsed.{badForm, found}
 use Rattle.record_text.specs.Line.{recordLine}
-use Rattle.record_text.specs.Lines.{Lined, refusedAt, read, line, linesThen, ended}
+use Rattle.record_text.specs.Lines.{Lined, refusedAt, read, line}
 use Rattle.record_text.proofs.LinesLaws.{line-bad, line-refused, line-read}
 use Rattle.record_file.specs.Reading.{Aids, recordLineMeaning, unchanged, recordLines}
 use Rattle.record_read.specs.declared.blocks.Reading.{Reading}
@@ -31,7 +31,7 @@ use Rattle.record_read.specs.declared.blocks.Stepped.{Stepped}
 use Rattle.record_read.specs.declared.blocks.Stepped.the-variants as stepped
 use Rattle.record_read.specs.declared.loops.LinesRead.the-variants as linesRead
 use Rattle.record_read.specs.Back.{materialFor, inTurn, recordsOver}
-use Rattle.record_read.specs.Step.{Steps, Begun, Left, placedAll, blockLines, ReadsAll}
+use Rattle.record_read.specs.Step.{Steps, Begun, Left, ReadsAll}
 use Rattle.record_read.proofs.ReadLaws.{Going, going-start, going-more, going-refused, going-end}
 use Rattle.record_read.proofs.RestLaws.{in-turn-none, in-turn-more, in-turn-ext, place-means, placeable-after}
 

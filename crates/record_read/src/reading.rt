@@ -30,9 +30,10 @@ use sheet::MOST_BLOCKS;
 use sheet::MOST_SAMPLES;
 use sheet::Sheet;
 
-// A sheet of at most so many samples is read as a small one; it has at most so many blocks.
+// The most samples of a sheet that is read into short arrays.
 const SMALL_SAMPLES: usize = 1024;
 
+// The most blocks that it has: a block has at least 16 samples.
 const SMALL_BLOCKS: usize = 64;
 
 // Whether each list's count is one that its whole patterns allow.
@@ -198,7 +199,7 @@ fn read_and_copy(
     back
 }
 
-// The same with arrays of this function, which are cleared for each file: short ones where the sheet is small.
+// The same with arrays of this function. They are cleared for each file, so a small sheet has short ones.
 fn read_sheet(
     bytes: &[u8],
     front: Front,

@@ -7,7 +7,7 @@ use borrow.Author.Needs.{needs}
 use lib.ListN.{length, length-set}
 use lib.Seq.{sets}
 use Rattle.record_text.specs.Numeral.{numeral, digitsOf, furtherDigits}
-use Rattle.record_text.proofs.NumeralLaws.{further-le, further-high, length-numeral}
+use Rattle.record_text.proofs.NumeralLaws.{further-high, length-numeral}
 use Rattle.record_print.proofs.WriteSteps.{digit-written, rest-small}
 use Rattle.record_print.proofs.digits.write_numeral.Statement.{statement}
 use Rattle.record_print.proofs.digits.write_numeral.Tie as tie

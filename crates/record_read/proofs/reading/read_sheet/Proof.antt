@@ -5,8 +5,9 @@ use mathlib.Core.List.{List}
 use native.Mathlib.Omega.{arith}
 use lib.IntN.{ℤ, pos}
 use lib.ListN.{replicate, length-replicate}
+use Rattle.sheet_grid.specs.Grid.{mostSamples, mostBlocks}
 use Rattle.record_file.specs.Reading.{Aids}
-use Rattle.record_read.specs.Step.{oneList, HasRoom}
+use Rattle.record_read.specs.Step.{oneList}
 use Rattle.record_read.proofs.BackLaws.{area-few, small-room}
 use Rattle.record_read.proofs.reading.read_sheet.Statement.{statement}
 use Rattle.record_read.proofs.reading.read_sheet.Tie as tie
@@ -26,8 +27,8 @@ read-and-copy-requires : tie.Need-read-and-copy-requires
 read-and-copy-requires c κs =
     let d = start (c .before .before .before .before .before) in
     let most = area-few (aids d) (d .args .bytes .now) (d .args .front) (d .pre .0 .0) in
-    let samples = length-replicate {A = ℕ} 16384 0 in
-    let records = length-replicate {A = List ℤ} 1024 (replicate 4 (pos 0)) in
+    let samples = length-replicate {A = ℕ} mostSamples 0 in
+    let records = length-replicate {A = List ℤ} mostBlocks (replicate 4 (pos 0)) in
     (d .pre .0, (small-room (aids d) (d .args .bytes .now) (d .args .front) (d .pre .0 .0) (omega (arith, most, samples)) (omega (arith, samples, records)), (omega (arith, samples, d .pre .1 .0), omega (arith, records, d .pre .1 .1))))
 
 read-and-copy-requires-2 : tie.Need-read-and-copy-requires-2
