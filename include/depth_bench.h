@@ -4,7 +4,8 @@
  * At n = 4 and 8 it is word 0 alone: bit y*n + x is the mark of the sample in column x of row y; words 1 to 3 are not read, judged or
  * counted where they are handed in, and are 0 in an answer. At n = 16 word k has rows 4k to 4k + 3, row by row, lowest bit first: bit
  * 16*(y % 4) + x of word y / 4 is the mark of the sample in column x of row y. A record is a pattern, named by its kind and entry, and two
- * offsets. docs/REFERENCE.md has the whole.
+ * offsets. The contour of a texture of n*n samples marks those that are greater than the sum of its four corner samples divided by 4,
+ * rounded down. docs/REFERENCE.md has the whole.
  *
  * - A slice is a pointer and its length in bytes. Where the length is 0 the pointer may be NULL: nothing is read or written through it.
  *   A slice that is written (`block`) must not overlap another one.

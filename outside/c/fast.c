@@ -108,9 +108,8 @@ INLINE trial best_of_part(size_t words, const prepared *p, const uint64_t *part,
 static int32_t offset_of(size_t t) { return t % 2 == 0 ? (int32_t)(t / 2) : -1 - (int32_t)(t / 2); }
 
 static void contour_of(size_t n, const uint8_t *texture, uint64_t contour[4]) {
-    uint32_t sum = 0;
-    for (size_t i = 0; i < n * n; i++) sum += texture[i];
-    for (size_t i = 0; i < n * n; i++) if (texture[i] > sum / (n * n)) contour[i / 64] |= (uint64_t)1 << i % 64;
+    uint32_t sum = texture[0] + texture[n - 1] + texture[n * n - n] + texture[n * n - 1];
+    for (size_t i = 0; i < n * n; i++) if (texture[i] > sum / 4) contour[i / 64] |= (uint64_t)1 << i % 64;
 }
 
 INLINE depth_bench_choice choose(size_t words, size_t n, const uint64_t *list, size_t count, const uint8_t *border,

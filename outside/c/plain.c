@@ -118,9 +118,8 @@ INLINE depth_bench_choice choose(size_t words, size_t n, const uint64_t *list, s
     for (size_t k = 0; k < count; k++)
         weigh(words, n, list + words * k, border, original, table, table_len, reach, 0, (uint32_t)k, &best);
     if (texture == NULL) return best;
-    uint32_t sum = 0;
-    for (size_t i = 0; i < n * n; i++) sum += texture[i];
-    for (size_t i = 0; i < n * n; i++) if (texture[i] > sum / (n * n)) outline[i / 64] |= (uint64_t)1 << i % 64;
+    uint32_t sum = texture[0] + texture[n - 1] + texture[n * n - n] + texture[n * n - 1];
+    for (size_t i = 0; i < n * n; i++) if (texture[i] > sum / 4) outline[i / 64] |= (uint64_t)1 << i % 64;
     weigh(words, n, outline, border, original, table, table_len, reach, 1, 0, &best);
     return best;
 }

@@ -73,7 +73,3 @@ transposed-twice n l e =
     listOf-ext _ _ (n * n)
     (λ k h. transposed-across n l (across n k) (across-lt n k h) ∙ ap (λ (i : ℕ). getD l i 0) (across-twice n k h))
     ∙ listOf-own l 0 (n * n) e
-
--- a sum over the elements stays the same
-pub sum-transposed : (n : ℕ) (l : List ℕ) → sumTo (λ k. getD (transposedList n l) k 0) (n * n) ≡ sumTo (λ k. getD l k 0) (n * n)
-sum-transposed n l = sum-ext _ _ (n * n) (λ k h. transposed-across n l k h) ∙ sum-across (λ k. getD l k 0) n

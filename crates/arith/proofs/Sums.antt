@@ -2,14 +2,8 @@
 use Prim.Native.Nat.{ℕ, zero, suc, _+_, _*_, _≤_, _<_}
 use mathlib.Core.Path.{_≡_, refl, sym, ap, ap₂, _∙_}
 use native.Mathlib.Nat.{add-zero, add-suc, zero-mul, suc-mul}
-use native.Mathlib.Numerals.{add-one}
 use native.Mathlib.Omega.{arith}
 use Rattle.arith.specs.Sum.{sumTo}
-
--- one term more, as a loop takes it
-pub sum-more : (f : ℕ → ℕ) (k : ℕ) {s : ℕ} → s ≡ sumTo f k → s + f k ≡ sumTo f (k + 1)
-unfolding sumTo
-sum-more f k p = ap (λ (x : ℕ). x + f k) p ∙ ap (sumTo f) (sym (add-one k))
 
 -- equal terms have equal sums
 pub sum-ext : (f g : ℕ → ℕ) (k : ℕ) → ((i : ℕ) → i < k → f i ≡ g i) → sumTo f k ≡ sumTo g k

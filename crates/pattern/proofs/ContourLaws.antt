@@ -1,18 +1,19 @@
--- The contour in words, and the contour of a transposed texture: the transposed contour, for every n.
-use Prim.Native.Nat.{ℕ, _+_, _-_, _*_, _/_, _%_, _^_, _≤_, _<_, min}
+-- The contour in words; the contour of a transposed texture: the transposed contour, for every n; and that it never marks all samples.
+use Prim.Native.Nat.{ℕ, zero, suc, _+_, _-_, _*_, _/_, _%_, _^_, _≤_, _<_, min}
 use mathlib.Core.List.{List}
-use mathlib.Core.Bool.{Bool}
-use mathlib.Core.Path.{_≡_, sym, ap, _∙_}
+use mathlib.Core.Bool.{Bool, true}
+use mathlib.Core.Path.{_≡_, refl, sym, ap, _∙_}
 use native.Mathlib.Omega.{arith}
+use borrow.Author.Tests.{ltb-true}
 use lib.Dec.{ltb}
 use lib.ListN.{getD}
-use Rattle.arith.specs.Bits.{bits}
+use Rattle.arith.specs.Bits.{bits, testBit}
 use Rattle.arith.specs.Square.{place, transposedList}
-use Rattle.arith.proofs.BitLaws.{bits-lt, bits-ext}
-use Rattle.arith.proofs.SquareLaws.{place-own, transposed-at, sum-transposed}
+use Rattle.arith.proofs.BitLaws.{bits-lt, bits-ext, bits-at, bits-all}
+use Rattle.arith.proofs.SquareLaws.{place-lt, place-own, transposed-at}
 use Rattle.pattern.specs.Size.{greatestSize}
 use Rattle.pattern.specs.Pattern.{pattern, transposed}
-use Rattle.pattern.specs.Contour.{threshold, contourOf}
+use Rattle.pattern.specs.Contour.{textureAt, threshold, contourOf}
 use Rattle.pattern.specs.Words.{fourWords}
 use Rattle.pattern.proofs.SizeLaws.{square-256}
 use Rattle.pattern.proofs.WordLaws.{four-same, four-parted}
@@ -48,21 +49,58 @@ contour-words n t {level} {c1 = c1} {c2 = c2} {c3 = c3} {m0 = m0} h e e1 e2 e3 k
     ∙ sym (four-parted f (n * n) (square-256 h))
     ∙ ap (λ (k : ℕ). bits (λ i. ltb k (getD t i 0)) (n * n)) e
 
-threshold-transposed : (n : ℕ) (t : List ℕ) → threshold n (transposedList n t) ≡ threshold n t
+-- two corners change places, and two stay
+threshold-transposed : (n : ℕ) (t : List ℕ) → 1 ≤ n → threshold n (transposedList n t) ≡ threshold n t
 unfolding threshold
-threshold-transposed n t = ap (λ (x : ℕ). x / (n * n)) (sum-transposed n t)
+threshold-transposed n t some =
+    let first : 0 < n = omega arith in
+    let last : n - 1 < n = omega arith in
+    rw (transposed-at n t 0 0 first first, transposed-at n t (n - 1) 0 last first, transposed-at n t 0 (n - 1) first last, transposed-at n t (n - 1) (n - 1) last last)
+    (ap (λ (x : ℕ). x / 4) (omega arith))
 
 -- the samples above a level, by column and row
-by-samples : (n h : ℕ) (t : List ℕ) → bits (λ i. ltb h (getD t i 0)) (n * n) ≡ pattern n (λ x y. ltb h (getD t (place n x y) 0))
+by-samples : (n h : ℕ) (t : List ℕ) → bits (λ i. ltb h (getD t i 0)) (n * n) ≡ pattern n (λ x y. ltb h (textureAt n t x y))
 by-samples n h t =
     bits-ext (λ i. ltb h (getD t i 0)) (λ i. ltb h (getD t (place n (i % n) (i / n)) 0)) (n * n)
     (λ i _. ap (λ (k : ℕ). ltb h (getD t k 0)) (sym (place-own n i)))
 
 pub contour-transposed : (n : ℕ) (t : List ℕ) → contourOf n (transposedList n t) ≡ transposed n (contourOf n t)
-unfolding contourOf
-contour-transposed n t =
+unfolding contourOf bits
+contour-transposed zero t = refl
+contour-transposed (suc m) t =
+    let n = suc m in
     let h = threshold n t in
-    ap (λ (k : ℕ). bits (λ i. ltb k (getD (transposedList n t) i 0)) (n * n)) (threshold-transposed n t)
+    ap (λ (k : ℕ). bits (λ i. ltb k (getD (transposedList n t) i 0)) (n * n)) (threshold-transposed n t (omega arith))
     ∙ by-samples n h (transposedList n t)
     ∙ pattern-ext n _ _ (λ x y hx hy. ap (ltb h) (transposed-at n t x y hx hy))
-    ∙ sym (ap (transposed n) (by-samples n h t) ∙ transposed-pattern n (λ x y. ltb h (getD t (place n x y) 0)))
+    ∙ sym (ap (transposed n) (by-samples n h t) ∙ transposed-pattern n (λ x y. ltb h (textureAt n t x y)))
+
+-- a sample is above the threshold where the contour marks all
+all-above :
+    (n : ℕ) (t : List ℕ) (x y : ℕ) → x < n → y < n → contourOf n t ≡ 2 ^ (n * n) - 1 → threshold n t < textureAt n t x y
+unfolding contourOf
+all-above n t x y hx hy e =
+    let i = place n x y in
+    let l = place-lt n x y hx hy in
+    ltb-true (threshold n t) (textureAt n t x y)
+    (sym (bits-at (λ i. ltb (threshold n t) (getD t i 0)) (n * n) i l)
+    ∙ ap (λ (w : ℕ). testBit w i) (e ∙ sym (bits-all (n * n)))
+    ∙ bits-at (λ _. true) (n * n) i l)
+
+-- a contour never marks all samples: the least corner is not above the threshold
+pub contour-not-all : (n : ℕ) (t : List ℕ) → 1 ≤ n → contourOf n t < 2 ^ (n * n) - 1
+unfolding threshold
+contour-not-all n t some =
+    let first : 0 < n = omega arith in
+    let last : n - 1 < n = omega arith in
+    let no : contourOf n t ≡ 2 ^ (n * n) - 1 → ⊥ =
+    λ e.
+    omega (
+      arith,
+      all-above n t 0 0 first first e,
+      all-above n t (n - 1) 0 last first e,
+      all-above n t 0 (n - 1) first last e,
+      all-above n t (n - 1) (n - 1) last last e,
+    )
+    in
+    omega (arith, contour-lt n t)

@@ -39,16 +39,15 @@ fn wide(x: u8) -> u64
     x as u64
 }
 
-// The mean of the texture samples, rounded down.
-fn mean(n: usize, texture: &[u8]) -> u64
+// The sum of the four corner samples divided by 4, rounded down.
+fn threshold(n: usize, texture: &[u8]) -> u64
     requires { ⌜ (1 ≤ n) × (n ≤ greatestSize) × (length (now texture) ≡ n * n) ⌝ }
     ensures { λ r. ⌜ r ≡ threshold n (now (texture .entry)) ⌝ }
 {
-    let mut sum: u64 = 0;
-    for i in 0..n * n {
-        sum += wide(texture[i]);
-    }
-    sum / ((n * n) as u64)
+    let last = n - 1;
+    let top = wide(texture[0]) + wide(texture[last]);
+    let bottom = wide(texture[last * n]) + wide(texture[last * n + last]);
+    (top + bottom) / 4
 }
 
 // One word: which of `count` samples from `from` on are above a level.
@@ -73,7 +72,7 @@ pub fn contour(n: usize, texture: &[u8]) -> Contoured
     if refusal != 0 {
         return Contoured::Refused(refusal);
     }
-    let level = mean(n, texture);
+    let level = threshold(n, texture);
     let c0 = n * n;
     let c1 = past_word(c0);
     let c2 = past_word(c1);

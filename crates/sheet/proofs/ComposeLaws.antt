@@ -39,23 +39,18 @@ use Rattle.sheet.proofs.StateLaws.{lengths-do, open-none}
 
 -- texture of a block is none or n * n samples, and lent where the sheet's is
 texture-length : (S : Sheet) (t : List ℕ) → (length (nextTexture S t) ≡ 0) ⊎ (length (nextTexture S t) ≡ S .n * S .n)
-texture-length S t = go (textured t)
+texture-length S t = go (textured t) _ (length-cut (S .n) (S .width) _ _ t)
   where
-    go :
-        (b : Bool)
-        → (length (cond b (cut (S .n) (S .width) (nextX S) (nextY S) t) []) ≡ 0)
-        ⊎ (length (cond b (cut (S .n) (S .width) (nextX S) (nextY S) t) []) ≡ S .n * S .n)
-    go true = inr (length-cut (S .n) (S .width) (nextX S) (nextY S) t)
-    go false = inl refl
+    go : (b : Bool) (l : List ℕ) {k : ℕ} → length l ≡ k → (length (cond b l []) ≡ 0) ⊎ (length (cond b l []) ≡ k)
+    go true l e = inr e
+    go false l e = inl refl
 
 pub textured-next : (S : Sheet) (t : List ℕ) → 1 ≤ S .n → textured (nextTexture S t) ≡ textured t
-textured-next S t h = go (textured t)
+textured-next S t h = go (textured t) _ (rw (length-cut (S .n) (S .width) _ _ t) (one-le-square h))
   where
-    go : (b : Bool) → textured (cond b (cut (S .n) (S .width) (nextX S) (nextY S) t) []) ≡ b
-    go true =
-        lt-ltb 0 (length (cut (S .n) (S .width) (nextX S) (nextY S) t))
-        (rw (length-cut (S .n) (S .width) (nextX S) (nextY S) t) (one-le-square h))
-    go false = refl
+    go : (b : Bool) (l : List ℕ) → 1 ≤ length l → textured (cond b l []) ≡ b
+    go true l h = lt-ltb 0 (length l) h
+    go false l h = refl
 
 -- ---- a record that was chosen is not refused
 

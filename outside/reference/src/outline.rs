@@ -3,12 +3,12 @@
 use crate::block::{pattern_where, size_allowed, Pattern};
 use crate::{LENGTH, SIZE};
 
-/// "The threshold is their sum divided by n², rounded down. A sample greater than the threshold is
-/// marked." The texture has n² bytes, row by row.
+/// "The threshold from the four corner texture samples: their sum divided by 4, rounded down" (document 02, Ask 2). "A sample greater
+/// than the threshold is marked" (document 01). The texture has n² bytes, row by row.
 pub fn outline(n: usize, texture: &[u8]) -> Pattern {
-    let sum: usize = texture.iter().map(|&sample| sample as usize).sum();
-    let threshold = sum / (n * n);
-    pattern_where(n, |x, y| texture[y * n + x] as usize > threshold)
+    let corners = [(0, 0), (n - 1, 0), (0, n - 1), (n - 1, n - 1)];
+    let sum: u32 = corners.iter().map(|&(x, y)| u32::from(texture[y * n + x])).sum();
+    pattern_where(n, |x, y| u32::from(texture[y * n + x]) > sum / 4)
 }
 
 /// The outline of n² texture bytes. Refusals: 1, 2.
@@ -25,7 +25,7 @@ pub fn contour(n: usize, texture: &[u8]) -> Result<Pattern, u32> {
 #[cfg(test)]
 mod tests {
     use super::*;
-    use crate::block::{transposed, transposed_pattern};
+    use crate::block::{all_marked, transposed, transposed_pattern};
     use crate::random::Random;
 
     #[test]
@@ -35,30 +35,57 @@ mod tests {
         assert_eq!(contour(16, &[255; 256]), Ok([0; 4]));
     }
 
+    /// A texture with one value in its corners and another elsewhere.
+    fn cornered(n: usize, corner: u8, other: u8) -> Vec<u8> {
+        let edge = |i: usize| i == 0 || i == n - 1;
+        (0..n * n).map(|i| if edge(i % n) && edge(i / n) { corner } else { other }).collect()
+    }
+
+    #[test]
+    fn the_threshold_comes_from_the_corners_alone() {
+        assert_eq!(contour(4, &cornered(4, 100, 90)), Ok([0; 4]));
+        assert_eq!(contour(4, &cornered(4, 90, 100)), Ok([0x6FF6, 0, 0, 0]));
+        assert_eq!(contour(8, &cornered(8, 0, 1)), Ok([0x7EFF_FFFF_FFFF_FF7E, 0, 0, 0]));
+        let all = u64::MAX;
+        assert_eq!(contour(16, &cornered(16, 254, 255)), Ok([all ^ 0x8001, all, all, all ^ 0x8001 << 48]));
+        let mut texture = cornered(4, 100, 90);
+        texture[5] = 255;
+        assert_eq!(contour(4, &texture), Ok([1 << 5, 0, 0, 0]));
+    }
+
     #[test]
     fn the_threshold_is_rounded_down_and_not_itself_marked() {
-        let mut texture = [90; 16];
-        for corner in [0, 3, 12, 15] {
-            texture[corner] = 100;
+        for (corner, marks) in [(7, 0), (8, 1), (9, 1), (10, 1), (11, 1)] {
+            for place in [0, 3, 12, 15] {
+                let mut texture = [7; 16];
+                texture[place] = corner;
+                assert_eq!(contour(4, &texture), Ok([marks << place, 0, 0, 0]));
+            }
         }
-        assert_eq!(contour(4, &texture), Ok([0x9009, 0, 0, 0]));
         let mut texture = [7; 16];
-        texture[5] = 8;
-        assert_eq!(contour(4, &texture), Ok([1 << 5, 0, 0, 0]));
-        let mut texture = [7; 16];
-        texture[5] = 6;
-        assert_eq!(contour(4, &texture), Ok([0xFFFF ^ 1 << 5, 0, 0, 0]));
+        (texture[0], texture[5], texture[6]) = (11, 8, 9);
+        assert_eq!(contour(4, &texture), Ok([1 << 6 | 1, 0, 0, 0]));
     }
 
     #[test]
     fn the_outline_of_16_has_marks_in_every_word() {
         let mut texture = [7; 256];
-        for sample in [0, 63, 64, 255] {
+        for sample in [0, 63, 64, 254] {
             texture[sample] = 200;
         }
-        assert_eq!(contour(16, &texture), Ok([1 << 63 | 1, 1, 0, 1 << 63]));
-        let falling: Vec<u8> = (0..=255).collect();
-        assert_eq!(contour(16, &falling), Ok([0, 0, u64::MAX, u64::MAX]));
+        assert_eq!(contour(16, &texture), Ok([1 << 63 | 1, 1, 0, 1 << 62]));
+        let rising: Vec<u8> = (0..=255).collect();
+        assert_eq!(contour(16, &rising), Ok([0, 0, u64::MAX, u64::MAX]));
+    }
+
+    #[test]
+    fn an_outline_never_marks_all() {
+        for n in [4, 8, 16] {
+            for seed in 0..200 {
+                let texture: Vec<u8> = Random(seed).bytes(n * n).iter().map(|byte| byte % 3).collect();
+                assert_ne!(contour(n, &texture), Ok(all_marked(n)));
+            }
+        }
     }
 
     #[test]

@@ -1,4 +1,4 @@
--- `contour` meets its contract: the refusal, or the samples above the mean, at most 64 to a word.
+-- `contour` meets its contract: the refusal, or the samples above the threshold, at most 64 to a word.
 use mathlib.Core.Path.{_≡_, sym, ap, _∙_}
 use native.Mathlib.Omega.{arith}
 use lib.ListN.{length}
@@ -27,8 +27,8 @@ none c = sym (c .before .samples-refusal .ensures) ∙ c .if1 .left
 fits : (c : tie.Else1) → let a = c .before .before .before .args in SamplesFit (a .n) (length (a .texture .now))
 fits c = let a = c .before .before .before .args in samples-fit (a .n) (length (a .texture .now)) (none c)
 
-mean-requires : tie.Need-mean-requires
-mean-requires c κs = let f = fits c in (omega arith, f .high, f .square)
+threshold-requires : tie.Need-threshold-requires
+threshold-requires c κs = let f = fits c in (omega arith, f .high, f .square)
 
 mul-c0 : tie.Need-mul-c0
 mul-c0 c = omega (arith, square-256 (fits (c .before) .high))
@@ -82,12 +82,12 @@ returns-2 c =
     let t = d .before .before .before .args .texture .now in
     let n = d .before .before .before .args .n in
     ap given
-    (contour-words n t (fits d .high) (b .mean .ensures) (w .before .before .past-word .ensures) (w .before .past-word2 .ensures) (w .past-word3 .ensures)
+    (contour-words n t (fits d .high) (b .threshold .ensures) (w .before .before .past-word .ensures) (w .before .past-word2 .ensures) (w .past-word3 .ensures)
     (d1 .lesser .ensures) (d2 .lesser2 .ensures) (d3 .lesser3 .ensures) (d4 .lesser4 .ensures)
     (d2 .before .above .ensures) (d3 .before .above2 .ensures) (d4 .before .above3 .ensures) (c .above4 .ensures))
     ∙ answer-given (samplesRefusal n (length t)) (contourOf n t) (none d)
 
 pub contour-spec : {M : Type 1} → statement M
 contour-spec =
-    tie.close (tie.spec (λ c κs. tt) returns mean-requires mul-c0 (λ c κs. tt) (λ c κs. tt) (λ c κs. tt) (λ c κs. tt) above-requires
+    tie.close (tie.spec (λ c κs. tt) returns threshold-requires mul-c0 (λ c κs. tt) (λ c κs. tt) (λ c κs. tt) (λ c κs. tt) above-requires
     (λ c κs. tt) above-requires-2 (λ c κs. tt) above-requires-3 (λ c κs. tt) above-requires-4 returns-2)

@@ -28,10 +28,12 @@ fn wedgelets() {
     }
 }
 
-/// Sample i of texture 0 to 9; those from 10 up are pseudo-random.
+/// Sample i of texture 0 to 17: constant, one sample, a row, a column, rising, falling; corners above and below the others; one corner
+/// above the others by 4, or by 1 to 3, where a quarter of the sum is rounded.
 fn contour_sample(case: usize, n: usize, i: usize) -> u8 {
     let (x, y, last) = (i % n, i / n, n - 1);
     let of = |chosen: bool, yes: u8, no: u8| if chosen { yes } else { no };
+    let corners = [0, last, n * last, n * n - 1];
     match case {
         0 => 0,
         1 => 255,
@@ -42,24 +44,30 @@ fn contour_sample(case: usize, n: usize, i: usize) -> u8 {
         6 => of(x == 0, 200, 50),
         7 => i as u8,
         8 => 255 - i as u8,
-        _ => of((x == 0 || x == last) && (y == 0 || y == last), 100, 90),
+        9 => of(corners.contains(&i), 100, 90),
+        10 => of(corners.contains(&i), 90, 100),
+        11..=14 if x == 1 && y == 1 => 8,
+        11..=14 if x == 2 && y == 1 => 9,
+        11..=14 => of(i == corners[case - 11], 11, 7),
+        _ if x == 1 && y == 1 => 8,
+        _ => of(i == corners[case - 15], 8 + (case - 15) as u8, 7),
     }
 }
 
-/// A texture by its number.
+/// A texture by its number: those from 18 up are pseudo-random.
 fn texture(case: usize, n: usize) -> Slice {
     let bytes = random(case * 1000 + n, n * n);
     match case {
-        0..=9 => given(&(0..n * n).map(|i| contour_sample(case, n, i)).collect::<Vec<u8>>()),
-        10..=17 => bytes,
+        0..=17 => given(&(0..n * n).map(|i| contour_sample(case, n, i)).collect::<Vec<u8>>()),
+        18..=27 => bytes,
         _ => given(&bytes.samples.iter().map(|byte| byte % 4).collect::<Vec<u8>>()),
     }
 }
 
-/// Contours of 24 textures of each size; then refusals.
+/// Contours of 40 textures of each size; then refusals.
 fn contours() {
     for n in SIZES {
-        for case in 0..24 {
+        for case in 0..40 {
             println!("contour {n} |x {}", texture(case, n));
         }
     }
