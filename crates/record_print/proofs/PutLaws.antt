@@ -9,7 +9,7 @@ use lib.Dec.{leb, eqb}
 use lib.IntN.{ℤ, pos, negsuc, natAbs}
 use lib.ListN.{length, getD, take, drop, set, length-append, drop-of-length-le}
 use lib.Seq.{sets, sets-eq, take-at, length-take-le, drop-cons}
-use borrow.Author.Tests.{le-leb, lt-leb, lt-ltb}
+use borrow.Author.Tests.{le-leb, lt-ltb}
 use Rattle.record_text.specs.declared.cursor.Cursor.{Cursor}
 use Rattle.record_text.specs.declared.fields.SizeFields.{SizeFields}
 use Rattle.record.specs.declared.Record.{Record}
@@ -24,10 +24,8 @@ use Rattle.record_print.specs.Put.{Put, Written, Made, printedIf, signed
 use Rattle.record_print.proofs.WriteSteps.{written-length, sets-append}
 
 -- no room: nothing is written
-pub put-no-room : (old text : List ℕ) (from : Cursor) → length old < from .at + length text → Put old old from text from
-put-no-room old text from h =
-    let e = lt-leb (from .at + length text) (length old) h in
-    record { lent = rw e; place = rw e }
+pub put-no-room : (old text : List ℕ) (from : Cursor) → leb (from .at + length text) (length old) ≡ false → Put old old from text from
+put-no-room old text from e = record { lent = rw e; place = rw e }
 
 -- room: all of it is
 pub put-room :
@@ -56,7 +54,12 @@ written-whole {old} {new} {text} {next} h w =
     let e : 0 + length text ≡ next = sym (w .place) in
     w .lent ∙ sets-eq text old 0 (omega arith) ∙ ap (λ (k : ℕ). text ++ drop k old) e
 
--- a text of values that cannot be printed is none
+-- a text of values that can be printed is put as it is
+pub put-printable :
+    {b : Bool} {old new text : List ℕ} {from next : Cursor} → b ≡ true → Put old new from text next → Put old new from (printedIf b text) next
+put-printable e w = rw e w
+
+-- and one of values that cannot is none
 cond-same : {A : Type 0} (b : Bool) (x : A) → x ≡ cond b x x
 cond-same true x = refl
 cond-same false x = refl

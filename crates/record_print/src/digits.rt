@@ -26,6 +26,13 @@ fn digit_count(x: u32) -> u32
     5
 }
 
+// How long a number and the byte after it are.
+pub(crate) fn number_length(x: u32) -> usize
+    ensures { λ r. ⌜ r ≡ furtherDigits 4 x + 2 ⌝ }
+{
+    digit_count(x) as usize + 1
+}
+
 // Writes the numeral of x at a place, from its last digit to its first, and answers the place after it.
 fn write_numeral(out: &mut [u8], at: usize, x: u32) -> usize
     requires { ⌜ (x < numeralEnd) × (at + length (numeral x) ≤ length (now out)) ⌝ }

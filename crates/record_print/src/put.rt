@@ -1,20 +1,30 @@
 // Writing texts, fields and lines at a place of lent bytes: all of a text where there is room, else nothing.
 ghost use mathlib.Core.Path.{_≡_};
+ghost use Prim.Native.Nat.{_+_};
+ghost use lib.Dec.{leb};
 ghost use Rattle.record_text.specs.Field.{numberText};
 ghost use Rattle.record_text.specs.Line.{sizeTitle, depthTitle, recordTitle, valueText};
 ghost use Rattle.record_print.specs.Put.{Put, printedIf, numberPrintable, signedPrintable};
+use crate::digits::number_length;
 use crate::digits::write_number;
 use record_text::Cursor;
+
+// Whether so many bytes more go into a slice of a length, from a place on.
+fn has_room(length: usize, at: usize, more: usize) -> bool
+    ensures { λ r. ⌜ r ≡ leb (at + more) length ⌝ }
+{
+    if length < at {
+        return false;
+    }
+    more <= length - at
+}
 
 // Writes the bytes `text`, and answers the place after them.
 pub fn put_text(out: &mut [u8], from: Cursor, text: &[u8]) -> Cursor
     ensures { λ r. ⌜ Put (now (out .entry)) (now (out .exit)) from (now (text .entry)) r ⌝ }
 {
     let at = from.at;
-    if out.len() < at {
-        return from;
-    }
-    if out.len() - at < text.len() {
+    if !has_room(out.len(), at, text.len()) {
         return from;
     }
     for i in 0..text.len() {
@@ -67,9 +77,13 @@ pub fn put_number(out: &mut [u8], from: Cursor, x: u32, end: u8) -> Cursor
     if !number_printable(x) {
         return from;
     }
-    let mut line = [0u8; 8];
-    let len = write_number(&mut line, 0, x, end);
-    put_text(out, from, &line[..len])
+    let at = from.at;
+    if !has_room(out.len(), at, number_length(x)) {
+        return from;
+    }
+    Cursor {
+        at: write_number(out, at, x, end),
+    }
 }
 
 // The line of a table value.

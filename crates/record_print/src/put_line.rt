@@ -13,40 +13,43 @@ use record_text::Cursor;
 use record_text::SizeFields;
 use record_text::end_byte;
 
+// The numbers of a line.
+const LINE_NUMBERS: usize = 4;
+
 // Number k of a line.
-fn number_at(numbers: &[i64], k: usize) -> i64
-    requires { ⌜ k < length (now numbers) ⌝ }
+fn number_at(numbers: &[i64; LINE_NUMBERS], k: usize) -> i64
+    requires { ⌜ k < 4 ⌝ }
     ensures { λ r. ⌜ r ≡ numberAt (now (numbers .entry)) k ⌝ }
 {
     numbers[k]
 }
 
 // Makes a line from the start of `line`, and answers its length; 0 where a number has no numeral.
-fn write_line(line: &mut [u8], numbers: &[i64]) -> usize
-    requires { ⌜ length (lineText (now numbers)) ≤ length (now line) ⌝ }
+fn write_line(line: &mut [u8], numbers: &[i64; LINE_NUMBERS]) -> usize
+    requires { ⌜ (length (now numbers) ≡ 4) × (length (lineText (now numbers)) ≤ length (now line)) ⌝ }
     ensures { λ r.
         let l = now (numbers .entry) in
         ⌜ Made (now (line .exit)) (printedIf (linePrintable l) (lineText l)) r ⌝ }
 {
     let mut p = 0;
-    for k in 0..numbers.len() {
+    for k in 0..LINE_NUMBERS {
         let z = number_at(numbers, k);
         if !signed_printable(z) {
             return 0;
         }
-        p = write_signed(line, p, z, end_byte(k + 1 == numbers.len()));
+        p = write_signed(line, p, z, end_byte(k + 1 == LINE_NUMBERS));
     }
     p
 }
 
-// A line of at most 8 numbers; nothing where one has no numeral.
-fn put_line(out: &mut [u8], from: Cursor, numbers: &[i64]) -> Cursor
-    requires { ⌜ length (now numbers) ≤ 8 ⌝ }
+// A line of numbers; nothing where one has no numeral.
+fn put_line(out: &mut [u8], from: Cursor, numbers: &[i64; LINE_NUMBERS]) -> Cursor
+    requires { ⌜ length (now numbers) ≡ 4 ⌝ }
     ensures { λ r.
         let l = now (numbers .entry) in
         ⌜ Put (now (out .entry)) (now (out .exit)) from (printedIf (linePrintable l) (lineText l)) r ⌝ }
 {
-    let mut line = [0u8; 64];
+    let mut line = [0u8; 32];
     let len = write_line(&mut line, numbers);
     put_text(out, from, &line[..len])
 }

@@ -5,6 +5,7 @@ use mathlib.Core.Path.{_≡_, sym, _∙_, ap, refl}
 use native.Mathlib.Nat.{add-zero}
 use native.Mathlib.Omega.{arith}
 use borrow.Author.Needs.{needs}
+use borrow.Author.Tests.{not-true, not-false, leb-true}
 use lib.ListN.{length, drop, length-set}
 use lib.Seq.{sets}
 use Rattle.record_text.proofs.ReadSteps.{past}
@@ -20,20 +21,20 @@ abbrev μ-loop : tie.MeasureT-loop
 μ-loop out₀ text at i₀ i-end out i = length text - i
 
 returns : tie.Need-returns Inv-loop μ-loop
-returns c = put-no-room _ _ _ (let a = c .before .args in let h : length (a .out .now) < a .from .at + length (a .text .now) = omega arith in h)
-
-returns-2 : tie.Need-returns-2 Inv-loop μ-loop
-returns-2 c = put-no-room _ _ _ (let a = c .before .before .args in let h : length (a .out .now) < a .from .at + length (a .text .now) = omega arith in h)
+returns c = put-no-room _ _ _ (sym (c .before .has-room .ensures) ∙ not-true _ (c .if1 .taken))
 
 loop-holds : tie.Need-loop-holds Inv-loop μ-loop
 loop-holds c =
-    let a = c .before .before .args in
-    (ap (λ (k : ℕ). sets (a .out .now) k (a .text .now)) (add-zero (a .from .at)), refl, refl, omega arith, omega arith)
+    let a = c .before .before .before .before .args in
+    (ap (λ (k : ℕ). sets (a .out .now) k (a .text .now)) (add-zero (a .from .at)), refl, refl, omega arith, leb-true _ _ (sym (c .before .has-room .ensures) ∙ not-false _ (c .if1 .left)))
+
+slice-write-out : tie.Need-slice-write-out Inv-loop μ-loop
+slice-write-out c = let l = c .before .before .loop in omega (arith, l .inv .1, l .inv .4)
 
 loop-again : tie.Need-loop-again Inv-loop μ-loop
 loop-again c =
-    let a = c .before .before .before .before .before .args in
-    let l = c .before .before .loop in (
+    let l = c .before .before .loop in
+    let a = c .before .before .before .before .before .before .before .args in (
       copy-step (l .out) (a .text .now) (a .from .at) (l .i) _ (omega arith) refl ∙ l .inv .0,
       length-set (l .out) (a .from .at + l .i) _ ∙ l .inv .1,
       refl,
@@ -41,14 +42,14 @@ loop-again c =
       l .inv .4,
     )
 
-returns-3 : tie.Need-returns-3 Inv-loop μ-loop
-returns-3 c =
-    let a = c .before .before .before .before .args in
+returns-2 : tie.Need-returns-2 Inv-loop μ-loop
+returns-2 c =
     let l = c .before .loop in
+    let a = c .before .before .before .before .before .before .args in
     put-room _ _ _ _ _ (l .inv .4)
     (record { lent = ap (sets (l .out) (a .from .at + l .i)) (sym (past (a .text .now) (l .i) (omega arith))) ∙ l .inv .0; place = refl })
 
 pub put-text-spec : {M : Type 1} → statement M
 put-text-spec =
-    tie.close (tie.spec Inv-loop μ-loop returns (λ c. search needs) returns-2 loop-holds (λ c. search needs) (λ c. search needs)
-    (λ c. search needs) (λ c. search needs) (λ c. search needs) loop-again (λ c. search needs) (λ c. search needs) returns-3)
+    tie.close (tie.spec Inv-loop μ-loop (λ c κs. tt) returns loop-holds (λ c. search needs) (λ c. search needs) slice-write-out
+    (λ c. search needs) (λ c. search needs) loop-again (λ c. search needs) (λ c. search needs) returns-2)

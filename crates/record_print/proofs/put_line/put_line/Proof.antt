@@ -9,7 +9,9 @@ use Rattle.record_print.proofs.put_line.put_line.Statement.{statement}
 use Rattle.record_print.proofs.put_line.put_line.Tie as tie
 
 write-line-requires : tie.Need-write-line-requires
-write-line-requires c κs = let s = c .before .before in omega (arith, line-le (s .args .numbers .now), s .pre)
+write-line-requires c κs =
+    let s = c .before .before in
+    (s .pre, omega (arith, line-le (s .args .numbers .now), s .pre))
 
 slice-aggregate-put-text : tie.Need-slice-aggregate-put-text
 slice-aggregate-put-text c = made-length (c .before .before .before .write-line .ensures)

@@ -20,11 +20,11 @@ use Rattle.record_print.proofs.put_line.write_line.Statement.{statement
 use Rattle.record_print.proofs.put_line.write_line.Tie as tie
 
 abbrev Inv-loop : tie.InvT-loop
-Inv-loop line₀ numbers p₀ k₀ k-end line p k =
-    (Left numbers line₀ k line p) × (linePrintable (drop k numbers) ≡ linePrintable numbers) × (k-end ≡ length numbers) × (k ≤ length numbers)
+Inv-loop line₀ numbers p₀ k₀ line p k =
+    (Left numbers line₀ k line p) × (linePrintable (drop k numbers) ≡ linePrintable numbers) × (k ≤ 4)
 
 abbrev μ-loop : tie.MeasureT-loop
-μ-loop line₀ numbers p₀ k₀ k-end line p k = length numbers - k
+μ-loop line₀ numbers p₀ k₀ line p k = 4 - k
 
 -- the number as it is handed on
 number :
@@ -46,7 +46,7 @@ printable c b e =
     (t, sym (printable-from _ (l .k) b (omega arith) t) ∙ l .inv .1)
 
 loop-holds : tie.Need-loop-holds Inv-loop μ-loop
-loop-holds c = (record { lent = refl; place = omega arith; room = refl }, refl, refl, omega arith)
+loop-holds c = (record { lent = refl; place = omega arith; room = refl }, refl, omega arith)
 
 same-length : tie.Need-same-length Inv-loop μ-loop
 same-length c = c .before .before .before .before .loop .inv .0 .room
@@ -61,7 +61,10 @@ text :
     let l = z .before .before .loop in
     let a = z .before .before .before .before .args in
     signedText (c .end-byte .result) (toZ w64 (ofZ w64 (z .number-at .result))) ≡ signedText (endByte (eqb (l .k + 1) (length (a .numbers .now)))) (numberAt (a .numbers .now) (l .k))
-text c = ap₂ signedText (c .end-byte .ensures) (number (c .before .before .before .before))
+text c =
+    let z = c .before .before .before .before in
+    let last = ap (λ (m : ℕ). endByte (eqb (z .before .before .loop .k + 1) m)) (sym (z .before .before .before .before .pre .0)) in
+    ap₂ signedText (c .end-byte .ensures ∙ last) (number z)
 
 write-signed-requires : tie.Need-write-signed-requires Inv-loop μ-loop
 write-signed-requires c κs =
@@ -70,14 +73,14 @@ write-signed-requires c κs =
     let l = z .before .before .loop in
     let s = z .before .before .before .before in
     let has = printable (e .before) true (not-false _ (e .if1 .left)) .0 in
-    (rw (number z) (ltb-true _ _ (sym has)), rw (text c) (left-room _ _ _ _ _ (l .inv .0) (omega arith) (s .pre)))
+    (rw (number z) (ltb-true _ _ (sym has)), rw (text c) (left-room _ _ _ _ _ (l .inv .0) (omega arith) (s .pre .1)))
 
 loop-again : tie.Need-loop-again Inv-loop μ-loop
 loop-again c =
     let w = c .before .before in
     let e = w .before .before .before in
     let l = e .before .before .before .before .loop in
-    (left-more _ _ _ _ _ (l .inv .0) (omega arith) (written-as (w .write-signed .ensures) (text (w .before))), printable (e .before) true (not-false _ (e .if1 .left)) .1, refl, omega arith)
+    (left-more _ _ _ _ _ (l .inv .0) (omega arith) (written-as (w .write-signed .ensures) (text (w .before))), printable (e .before) true (not-false _ (e .if1 .left)) .1, omega arith)
 
 same-length-2 : tie.Need-same-length-2 Inv-loop μ-loop
 same-length-2 c = c .before .loop .inv .0 .room
@@ -85,7 +88,7 @@ same-length-2 c = c .before .loop .inv .0 .room
 returns-2 : tie.Need-returns-2 Inv-loop μ-loop
 returns-2 c =
     let l = c .before .loop in
-    line-made _ _ _ _ _ (l .inv .0) (omega arith) (c .before .before .before .pre) (l .inv .1)
+    line-made _ _ _ _ _ (l .inv .0) (omega arith) (c .before .before .before .pre .1) (l .inv .1)
 
 pub write-line-spec : {M : Type 1} → statement M
 write-line-spec =
