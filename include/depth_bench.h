@@ -36,8 +36,11 @@ typedef struct { uint32_t refusal, marks; } depth_bench_prediction;
 /* kind: 0 a wedgelet (a straight edge), 1 the contour (the outline of the texture).
  * entry: the place in the wedgelet list for n, from 0; of the contour 0.
  * off0, off1: what is added to the table index of the unmarked and of the marked samples.
- * cost: the sum of absolute differences between the record's prediction and the original. */
-typedef struct { uint32_t refusal, kind, entry; int32_t off0, off1; uint32_t cost; } depth_bench_choice;
+ * cost: the sum of absolute differences between the record's prediction and the original.
+ * tried: how many offsets were tried in all. A side of a pattern is its unmarked or its marked samples. For each side of each wedgelet,
+ *   and of the contour where a texture is lent, offsets are tried in the order 0, -1, 1, -2, 2 .. -reach, reach, up to the first that
+ *   costs nothing on that side, which counts too, or all 2 * reach + 1 where none does; a side without samples takes one. */
+typedef struct { uint32_t refusal, kind, entry; int32_t off0, off1; uint32_t cost, tried; } depth_bench_choice;
 
 /* The words of the pattern. At n = 4 it is the low 16 bits of word[0], at n = 8 all 64, and words 1 to 3 are 0; at n = 16 it is all four
  * words, word[k] having rows 4k to 4k + 3. */
@@ -46,7 +49,7 @@ typedef struct { uint32_t refusal; uint64_t word[4]; } depth_bench_pattern;
 /* The sizes that the library was built with: an array of length -1 does not compile. */
 typedef char depth_bench_size_t_has_8_bytes[sizeof(size_t) == 8 ? 1 : -1];
 typedef char depth_bench_prediction_has_8_bytes[sizeof(depth_bench_prediction) == 8 ? 1 : -1];
-typedef char depth_bench_choice_has_24_bytes[sizeof(depth_bench_choice) == 24 ? 1 : -1];
+typedef char depth_bench_choice_has_28_bytes[sizeof(depth_bench_choice) == 28 ? 1 : -1];
 typedef char depth_bench_pattern_has_40_bytes[sizeof(depth_bench_pattern) == 40 ? 1 : -1];
 typedef char depth_bench_pattern_words_at_8[offsetof(depth_bench_pattern, word) == 8 ? 1 : -1];
 

@@ -80,7 +80,7 @@ static int agree(size_t n, uint32_t reach) {
         if ((who == PLAIN2 || who == PLAIN3) && (i >= plain_blocks(n) || (n == 16 && built))) continue;
         depth_bench_choice a = choose_with(BENCH, 0, n, reach, i), b = choose_with(who, built, n, reach, i);
         if (a.refusal != 0 || b.refusal != 0 || a.kind != b.kind || a.entry != b.entry) return 0;
-        if (a.off0 != b.off0 || a.off1 != b.off1 || a.cost != b.cost) return 0;
+        if (a.off0 != b.off0 || a.off1 != b.off1 || a.cost != b.cost || a.tried != b.tried) return 0;
     }
     return 1;
 }

@@ -33,7 +33,8 @@ int main(void) {
 
     int sum = 0;
     for (int i = 0; i < 64; i++) sum += abs(predicted[i] - original[i]);
-    printf("kind %u, entry %u, offsets %d and %d, cost %u\n", best.kind, best.entry, best.off0, best.off1, best.cost);
+    printf("kind %u, entry %u, offsets %d and %d, cost %u, %u offsets tried\n", best.kind, best.entry, best.off0, best.off1, best.cost,
+        best.tried);
     printf("pattern %016llx, %u samples marked, differences %d\n\n", (unsigned long long)word[0], made.marks, sum);
     printf("original    predicted\n");
     for (int y = 0; y < 8; y++) {

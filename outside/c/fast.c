@@ -1,8 +1,8 @@
 /* The edge list and the choice by the bench's own method, in C, to compare speeds with; for sound input only. A choice, once a block: the
    index of the depth in each of the eight cases, the pattern of the samples below each value, and the bit planes of the samples. A side's
-   cost is convex in the value, so the turn along the table is found by halving, and the best level is there or one step further. The list:
-   the marks of a row are a prefix or a suffix of it, and an equal entry is looked for among those with as many marks. Each is compiled for
-   patterns of one word and of four. */
+   cost is convex in the value, so the turn along the table is found by halving, and the best level is there or one step further; how many
+   offsets a trial one by one takes follows from the best. The list: the marks of a row are a prefix or a suffix of it, and an equal entry
+   is looked for among those with as many marks. Each is compiled for patterns of one word and of four. */
 #include "fast.h"
 
 #define INLINE static inline __attribute__((always_inline))
@@ -105,6 +105,9 @@ INLINE trial best_of_part(size_t words, const prepared *p, const uint64_t *part,
     return (trial){ 0, cost_at(words, p, part, size, table[at]) };
 }
 
+/* How many offsets a trial one by one takes for a side: up to its best one where that costs nothing, else all. */
+INLINE uint32_t tried(trial best, uint32_t reach) { return best.cost == 0 ? (uint32_t)best.number + 1 : 2 * reach + 1; }
+
 static int32_t offset_of(size_t t) { return t % 2 == 0 ? (int32_t)(t / 2) : -1 - (int32_t)(t / 2); }
 
 static void contour_of(size_t n, const uint8_t *texture, uint64_t contour[4]) {
@@ -115,7 +118,7 @@ static void contour_of(size_t n, const uint8_t *texture, uint64_t contour[4]) {
 INLINE depth_bench_choice choose(size_t words, size_t n, const uint64_t *list, size_t count, const uint8_t *border,
     const uint8_t *original, const uint8_t *table, size_t table_len, uint32_t reach, const uint8_t *texture) {
     prepared p;
-    depth_bench_choice best = { 0, 0, 0, 0, 0, UINT32_MAX };
+    depth_bench_choice best = { 0, 0, 0, 0, 0, UINT32_MAX, 0 };
     uint64_t contour[4] = { 0, 0, 0, 0 }, rest[4];
     prepare(words, &p, n, border, original, table, table_len);
     if (texture != NULL) contour_of(n, texture, contour);
@@ -125,9 +128,10 @@ INLINE depth_bench_choice choose(size_t words, size_t n, const uint64_t *list, s
         for (size_t w = 0; w < words; w++) rest[w] = p.below[256][w] - pattern[w];
         trial unmarked = best_of_part(words, &p, rest, table, table_len, p.index[4 * origin + edges], reach);
         trial marked = best_of_part(words, &p, pattern, table, table_len, p.index[4 * !origin + edges], reach);
+        best.tried += tried(unmarked, reach) + tried(marked, reach);
         if (unmarked.cost + marked.cost < best.cost)
             best = (depth_bench_choice){ 0, k >= count, k < count ? (uint32_t)k : 0, offset_of(unmarked.number), offset_of(marked.number),
-                unmarked.cost + marked.cost };
+                unmarked.cost + marked.cost, best.tried };
     }
     return best;
 }

@@ -43,7 +43,8 @@ static int same_slice(const slice *a, const slice *b) { return memcmp(a->bytes, 
 static uint8_t *lent(slice *s, int null) { return null && s->len == 0 ? NULL : start_of(s); }
 
 static int same_choice(depth_bench_choice a, depth_bench_choice b) {
-    return a.refusal == b.refusal && a.kind == b.kind && a.entry == b.entry && a.off0 == b.off0 && a.off1 == b.off1 && a.cost == b.cost;
+    return a.refusal == b.refusal && a.kind == b.kind && a.entry == b.entry && a.off0 == b.off0 && a.off1 == b.off1 && a.cost == b.cost
+        && a.tried == b.tried;
 }
 
 static int same_pattern(depth_bench_pattern a, depth_bench_pattern b) {
@@ -251,8 +252,11 @@ static int choose_differs(choose_case *c) {
     if (what == NULL) return 0;
     differ(what);
     printf("  n %zu reach %u\n", c->n, c->reach);
-    printf("  got      %u: %u %u %d %d cost %u\n", got.refusal, got.kind, got.entry, got.off0, got.off1, got.cost);
-    printf("  expected %u: %u %u %d %d cost %u\n", want.refusal, want.kind, want.entry, want.off0, want.off1, want.cost);
+    for (int i = 0; i < 2; i++) {
+        const depth_bench_choice *a = i == 0 ? &got : &want;
+        printf("  %s %u: %u %u %d %d cost %u tried %u\n", i == 0 ? "got     " : "expected", a->refusal, a->kind, a->entry, a->off0,
+            a->off1, a->cost, a->tried);
+    }
     show("border", &was.border); show("original", &was.original); show("table", &was.table); show("texture", &was.texture);
     return 1;
 }

@@ -3,6 +3,9 @@
 #include "depth_bench.h"
 #include "depth_bench.h"
 
+/* How many offsets are tried for the block in `main`. */
+static const uint32_t offsets_tried = 356;
+
 #ifdef DOUBLES
 depth_bench_prediction depth_bench_predict(size_t n, uint64_t word0, uint64_t word1, uint64_t word2, uint64_t word3,
     const uint8_t *border, size_t border_len, const uint8_t *table, size_t table_len, int32_t off0, int32_t off1, uint8_t *block,
@@ -16,7 +19,7 @@ depth_bench_prediction depth_bench_predict(size_t n, uint64_t word0, uint64_t wo
 depth_bench_choice depth_bench_choose(size_t n, const uint8_t *border, size_t border_len, const uint8_t *original, size_t original_len,
     const uint8_t *table, size_t table_len, uint32_t reach, const uint8_t *texture, size_t texture_len) {
     int lent = n * n == original_len && border_len == 4 * n && border[0] == table[0] && original[15] == table[table_len - 1];
-    depth_bench_choice answer = { lent && texture == NULL && texture_len == 0 && reach == 1 ? 0u : 1u, 0, 0, 0, 0, 0 };
+    depth_bench_choice answer = { lent && texture == NULL && texture_len == 0 && reach == 1 ? 0u : 1u, 0, 0, 0, 0, 0, offsets_tried };
     return answer;
 }
 
@@ -44,7 +47,8 @@ int main(void) {
     for (int i = 0; i < 16; i++) border[i] = i == 0 || i > 7 ? 9 : 200;
     for (int i = 0; i < 16; i++) original[i] = i < 4 ? 9 : 200;
     depth_bench_choice best = choose(4, border, sizeof border, original, sizeof original, table, sizeof table, 1, NULL, 0);
-    if (best.refusal != 0 || best.kind != 0 || best.entry != 0 || best.off0 != 0 || best.off1 != 0 || best.cost != 0) return 1;
+    if (best.refusal != 0 || best.kind != 0 || best.entry != 0 || best.off0 != 0 || best.off1 != 0) return 1;
+    if (best.cost != 0 || best.tried != offsets_tried) return 1;
     depth_bench_pattern pattern = pattern_of(4, best.kind, best.entry, NULL, 0);
     if (pattern.refusal != 0 || pattern.word[0] != 0xFFF0 || (pattern.word[1] | pattern.word[2] | pattern.word[3]) != 0) return 2;
     const uint64_t *word = pattern.word;
@@ -53,7 +57,8 @@ int main(void) {
     if (made.refusal != 0 || made.marks != 12) return 3;
     for (int i = 0; i < 16; i++) if (block[i] != original[i]) return 4;
     /* The fields by their types. */
-    uint32_t *const numbers[] = { &made.refusal, &made.marks, &best.refusal, &best.kind, &best.entry, &best.cost, &pattern.refusal };
+    uint32_t *const numbers[] = { &made.refusal, &made.marks, &best.refusal, &best.kind, &best.entry, &best.cost, &best.tried,
+        &pattern.refusal };
     int32_t *const offsets[] = { &best.off0, &best.off1 };
     if (*numbers[0] != 0 || *offsets[0] != 0) return 5;
     const int stack[] = { DEPTH_BENCH_STACK_PREDICT, DEPTH_BENCH_STACK_PATTERN_OF, DEPTH_BENCH_STACK_CHOOSE };

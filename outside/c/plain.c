@@ -1,6 +1,6 @@
-/* Prediction and choice by plain loops: every offset is tried for every side of every pattern, sample by sample; the edge list with every
-   candidate sample by sample and every earlier entry compared. Each is compiled for patterns of one word and of four, so that one word
-   costs no more than if there were no others. */
+/* Prediction and choice by plain loops: offsets are tried for every side of every pattern, sample by sample, until one costs nothing; the
+   edge list with every candidate sample by sample and every earlier entry compared. Each is compiled for patterns of one word and of four,
+   so that one word costs no more than if there were no others. */
 #include "plain.h"
 
 #include <stdlib.h>
@@ -53,7 +53,7 @@ INLINE uint32_t side_cost(size_t words, size_t samples, const uint64_t *pattern,
     return cost;
 }
 
-/* The best offsets of a pattern, put into `best` where they cost less. */
+/* The best offsets of a pattern, put into `best` where they cost less; the offsets tried for them are added to its count. */
 INLINE void weigh(size_t words, size_t n, const uint64_t *pattern, const uint8_t *border, const uint8_t *original, const uint8_t *table,
     size_t table_len, uint32_t reach, uint32_t kind, uint32_t entry, depth_bench_choice *best) {
     int32_t depth[2], offset[2] = { 0, 0 }, first = mark(words, pattern, 0);
@@ -62,13 +62,14 @@ INLINE void weigh(size_t words, size_t n, const uint64_t *pattern, const uint8_t
     for (int32_t side = 0; side < 2; side++) {
         int32_t index = index_of(table, table_len, depth[side != first]);
         cost[side] = UINT32_MAX;
-        for (int32_t trial = 0; trial <= 2 * (int32_t)reach; trial++) {
+        for (int32_t trial = 0; trial <= 2 * (int32_t)reach && cost[side] != 0; trial++, best->tried++) {
             int32_t off = trial % 2 ? -(trial / 2 + 1) : trial / 2;
             uint32_t now = side_cost(words, n * n, pattern, side, original, value_at(table, table_len, index + off));
             if (now < cost[side]) { cost[side] = now; offset[side] = off; }
         }
     }
-    if (cost[0] + cost[1] < best->cost) *best = (depth_bench_choice){ 0, kind, entry, offset[0], offset[1], cost[0] + cost[1] };
+    if (cost[0] + cost[1] < best->cost)
+        *best = (depth_bench_choice){ 0, kind, entry, offset[0], offset[1], cost[0] + cost[1], best->tried };
 }
 
 /* Border point k, clockwise from (0,0). */
@@ -114,7 +115,7 @@ size_t plain_list(size_t n, uint64_t *list) { return n == 16 ? build(4, n, list)
 INLINE depth_bench_choice choose(size_t words, size_t n, const uint64_t *list, size_t count, const uint8_t *border,
     const uint8_t *original, const uint8_t *table, size_t table_len, uint32_t reach, const uint8_t *texture) {
     uint64_t outline[4] = { 0, 0, 0, 0 };
-    depth_bench_choice best = { 0, 0, 0, 0, 0, UINT32_MAX };
+    depth_bench_choice best = { 0, 0, 0, 0, 0, UINT32_MAX, 0 };
     for (size_t k = 0; k < count; k++)
         weigh(words, n, list + words * k, border, original, table, table_len, reach, 0, (uint32_t)k, &best);
     if (texture == NULL) return best;

@@ -7,7 +7,7 @@ use native.Mathlib.Omega.{arith}
 use lib.IntN.{ℤ}
 use lib.ListN.{length}
 use Rattle.arith.specs.Checks.{answer}
-use Rattle.arith.specs.Least.{First, leastTo}
+use Rattle.arith.specs.Least.{First}
 use Rattle.arith.proofs.LeastLaws.{leastTo-first}
 use Rattle.choice.specs.Offset.{InReach, trial, offset}
 use Rattle.choice.specs.Case.{Case}
@@ -17,7 +17,10 @@ use Rattle.choice.proofs.AcceptLaws.{accepted}
 use Rattle.choice.specs.Record.{PatternIn, Within, patternOf, costOf, Before, LeastRecord, OneLeast}
 use Rattle.record.specs.declared.Record.{Record}
 use Rattle.choice.specs.Search.{trialCost, bestTrial, bestCost, patternAt, lastPattern, bestPattern, recordAt, chosen}
-use Rattle.choice.specs.Answer.{chooseAnswer, LeastGiven}
+use Rattle.choice.specs.Trial.{trialOver}
+use Rattle.choice.specs.Answer.{chosenAll, chooseAnswer, LeastGiven}
+use Rattle.choice.proofs.TrialLaws.{trial-best}
+use Rattle.choice.proofs.TriedLaws.{tried-in-all}
 use Rattle.choice.proofs.OffsetLaws.{trial-offset, trial-in, in-offset, sooner-trial, same-offset}
 use Rattle.choice.proofs.SideLaws.{cost-trials}
 use Rattle.choice.proofs.NumberLaws.{parts-least, parts-first, numberOf, number-in, number-pattern, number-before, number-either, at-in, at-number}
@@ -106,7 +109,7 @@ module _ (C : Case) where
     offset-within : (m : Bool) → InReach (C .reach) (offset (bestTrial C (patternAt C best) m))
     offset-within m =
         let t = trialCost C (patternAt C best) m in
-        in-offset (C .reach) (leastTo t (2 * C .reach)) (omega (arith, leastTo-first t (2 * C .reach) .within))
+        in-offset (C .reach) (trialOver t (2 * C .reach) .0) (omega (arith, trial-best t (2 * C .reach) .within))
 
     chosen-within : Within C (recordAt C best)
     chosen-within = record { pattern-in = at-in C best best-either; off0-in = offset-within false; off1-in = offset-within true }
@@ -161,11 +164,11 @@ module _ (C : Case) where
 
   -- ---- the answer
 
-  answer-by : (k : ℕ) → (k ≡ 0 → LeastRecord C (chosen C .0) (chosen C .1)) → LeastGiven C (answer k (chosen C))
-  answer-by zero h = h refl
+  answer-by : (k : ℕ) → (k ≡ 0 → LeastRecord C (chosen C .0) (chosen C .1)) → LeastGiven C (answer k (chosenAll C))
+  answer-by zero h = (h refl, tried-in-all C)
   answer-by (suc k) h = tt
 
-  -- where `choose` answers a record, it is the one of least cost
+  -- where `choose` answers a record, it is the one of least cost, and so many offsets were tried
   pub answer-least : LeastGiven C (chooseAnswer C)
   unfolding chooseAnswer
   answer-least = answer-by (chooseRefusal C) (λ e. chosen-least C (accepted C e .some))

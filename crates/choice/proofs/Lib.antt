@@ -11,6 +11,7 @@ pub mod OffsetLaws
 pub mod CostLaws
 pub mod TallyLaws
 pub mod TrialLaws
+pub mod TriedLaws
 pub mod LayerLaws
 pub mod TurnLaws
 pub mod BuildLaws

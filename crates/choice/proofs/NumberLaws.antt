@@ -8,27 +8,33 @@ use native.Mathlib.Omega.{arith}
 use lib.Dec.{ltb}
 use lib.ListN.{length}
 use borrow.Author.Tests.{lt-ltb, le-ltb, ltb-true}
-use Rattle.arith.specs.Least.{leastTo}
 use Rattle.arith.proofs.Bools.{clash}
-use Rattle.arith.proofs.LeastLaws.{leastTo-first}
 use Rattle.choice.specs.Case.{Case}
 use Rattle.pattern.specs.Answer.{textured}
 use Rattle.choice.specs.Record.{PatternIn, patternBy}
 use Rattle.choice.specs.Search.{patternAt, lastPattern}
+use Rattle.choice.specs.Trial.{trialOver}
+use Rattle.choice.proofs.TrialLaws.{trial-best}
 
 -- ---- a cost of two parts, each with a number of its own, both at most N
 
 module _ (u m : ℕ → ℕ) (N c d : ℕ) (hc : c ≤ N) (hd : d ≤ N) where
+  abbrev best-u : ℕ
+  best-u = trialOver u N .0
+
+  abbrev best-m : ℕ
+  best-m = trialOver m N .0
+
   -- one part at a time is enough
-  pub parts-least : u (leastTo u N) + m (leastTo m N) ≤ u c + m d
-  parts-least = omega (arith, leastTo-first u N .least c (omega arith), leastTo-first m N .least d (omega arith))
+  pub parts-least : u best-u + m best-m ≤ u c + m d
+  parts-least = omega (arith, trial-best u N .least c (omega arith), trial-best m N .least d (omega arith))
 
   -- what comes before the first least of each costs more
-  pub parts-first : (c < leastTo u N) ⊎ ((c ≡ leastTo u N) × (d < leastTo m N)) → u (leastTo u N) + m (leastTo m N) < u c + m d
+  pub parts-first : (c < best-u) ⊎ ((c ≡ best-u) × (d < best-m)) → u best-u + m best-m < u c + m d
   parts-first =
       ⊎-elim
-      (λ l. omega (arith, leastTo-first u N .first c l, leastTo-first m N .least d (omega arith)))
-      (λ w. rw (w .0) (omega (arith, leastTo-first m N .first d (w .1))))
+      (λ l. omega (arith, trial-best u N .first c l, trial-best m N .least d (omega arith)))
+      (λ w. rw (w .0) (omega (arith, trial-best m N .first d (w .1))))
 
 -- ---- the number of a pattern
 

@@ -19,10 +19,11 @@ use Rattle.pattern.specs.Answer.{samplesRefusal, contourAnswer}
 use Rattle.pattern.specs.Contour.{threshold, contourOf}
 use Rattle.pattern.proofs.ContourLaws.{contour-lt}
 use Rattle.prediction.proofs.SideCallLaws.{sides-pass}
-use Rattle.choice.specs.Trial.{TrialOf}
+use Rattle.choice.specs.Trial.{TrialOf, triedBy}
 use Rattle.choice.specs.Case.{Case}
 use Rattle.choice.proofs.AcceptLaws.{Accepted, words-at}
-use Rattle.choice.specs.Search.{trialCost, bestCost, patternAt, lastPattern, bestPattern}
+use Rattle.choice.proofs.TrialLaws.{best-told, tried-told}
+use Rattle.choice.specs.Search.{trialCost, bestCost, triedAt, patternAt, lastPattern, bestPattern, triedTo, tried}
 use Rattle.choice.specs.Picked.{blockCase, Weighable, SidesOf, PickedOf}
 
 -- ---- one pattern
@@ -36,16 +37,23 @@ sides-at C p {w} {a} {b} {c} e q =
     subst (λ (x : ℕ). SidesOf C x a b c) e (record { first = q .first; second = q .second; its-cost = q .its-cost })
 
 -- both partitions together
-pub both-sides :
-    (C : Case) (w : ℕ) {a b c d : ℕ} → TrialOf (trialCost C w false) (2 * C .reach) a c → TrialOf (trialCost C w true) (2 * C .reach) b d
-    → SidesOf C w a b (c + d)
-unfolding bestCost
-both-sides C w p q =
-    record {
-      first = p .at-least;
-      second = q .at-least;
-      its-cost = ap₂ _+_ (p .its-cost ∙ ap (trialCost C w false) (p .at-least)) (q .its-cost ∙ ap (trialCost C w true) (q .at-least));
-    }
+module _ (C : Case) (w : ℕ) {a b c d : ℕ} where
+  module _ (p : TrialOf (trialCost C w false) (2 * C .reach) a c) (q : TrialOf (trialCost C w true) (2 * C .reach) b d) where
+    pub both-sides : SidesOf C w a b (c + d)
+    unfolding bestCost
+    both-sides =
+        let x = best-told p in
+        let y = best-told q in
+        record {
+          first = x;
+          second = y;
+          its-cost = ap₂ _+_ (p .its-cost ∙ ap (trialCost C w false) x) (q .its-cost ∙ ap (trialCost C w true) y);
+        }
+
+    -- and how many offsets are tried for them
+    pub both-tried : {s t : ℕ} → s ≡ triedBy a c (2 * C .reach) → t ≡ triedBy b d (2 * C .reach) → s + t ≡ triedAt C w
+    unfolding triedAt
+    both-tried e f = ap₂ _+_ (e ∙ tried-told p) (f ∙ tried-told q)
 
 -- ---- the contour
 
@@ -121,6 +129,6 @@ module _ (C : Case) where
       {n at a b c a′ b′ c′ : ℕ} → KeptSides C n at a b c → SidesOf C (patternAt C n) a′ b′ c′ → c ≤ c′ → KeptSides C (n + 1) at a b c
   sides-old {c′ = c′} k p l = record { kept = kept-old c′ (k .kept) (p .its-cost) l refl refl; sides = k .sides }
 
-  pub sides-all : {m at a b c : ℕ} → KeptSides C m at a b c → m ≡ lastPattern C + 1 → PickedOf C at a b c
-  unfolding bestPattern
-  sides-all k e = record { best = kept-all (lastPattern C) (k .kept) e; sides = k .sides }
+  pub sides-all : {m at a b c t : ℕ} → KeptSides C m at a b c → t ≡ triedTo C m → m ≡ lastPattern C + 1 → PickedOf C at a b c t
+  unfolding bestPattern tried
+  sides-all k q e = record { best = kept-all (lastPattern C) (k .kept) e; sides = k .sides; counted = q ∙ ap (triedTo C) e }

@@ -23,7 +23,8 @@ use Rattle.choice.specs.Case.{Case, caseOf}
 use Rattle.choice.specs.Refusal.{lengthsOk, wordsOk, chooseRefusal}
 use Rattle.choice.specs.Record.{difference, costOf}
 use Rattle.record.specs.declared.Record.{Record}
-use Rattle.choice.specs.Search.{bestCost, bestPattern, chosen}
+use Rattle.choice.specs.Search.{bestCost, triedAt, bestPattern, chosen, tried}
+use Rattle.choice.specs.Trial.{trialFrom}
 use Rattle.choice.specs.Answer.{chooseAnswer}
 
 -- the order of offsets between equals
@@ -37,8 +38,8 @@ entries = 0xFFF0 ∷ 0xFF70 ∷ 0xF730 ∷ 0x7310 ∷ 0x3310 ∷ 0x1110 ∷ 0x00
 abbrev with : ℕ → List ℕ → ℕ → List ℕ → Case
 with count original reach texture = caseOf 4 entries count (sampleNeighbours 80) original sampleTable reach texture
 
-abbrev answers : ℕ → ℕ → ℤ → ℤ → ℕ → Answer (Record × ℕ)
-answers kind entry off0 off1 cost = given (record { kind = kind; entry = entry; off0 = off0; off1 = off1 }, cost)
+abbrev answers : ℕ → ℕ → ℤ → ℤ → ℕ → ℕ → Answer (Record × ℕ × ℕ)
+answers kind entry off0 off1 cost count = given (record { kind = kind; entry = entry; off0 = off0; off1 = off1 }, cost, count)
 
 -- 140 where 0xF730 marks and 128 elsewhere, but for the last sample
 abbrev wedge : List ℕ
@@ -48,8 +49,9 @@ wedge = 128 ∷ 128 ∷ 128 ∷ 128 ∷ 140 ∷ 140 ∷ 128 ∷ 128 ∷ 140 ∷ 
 abbrev turns : List ℕ
 turns = 128 ∷ 140 ∷ 128 ∷ 140 ∷ 140 ∷ 128 ∷ 140 ∷ 128 ∷ 128 ∷ 140 ∷ 128 ∷ 140 ∷ 140 ∷ 128 ∷ 140 ∷ 128 ∷ []
 
--- with a reach of 2, of 1 and of 0; where every entry and offset costs 0, the first entry and offsets 0; with texture, the contour beside
--- seven entries and beside none; and neither entry nor texture
+-- record, cost and offsets tried: with a reach of 2, of 1 and of 0; where every entry costs 0, the first entry and offsets 0; with texture,
+-- the contour beside seven entries and beside none; where a side has no sample, and an entry stands twice (5 + 1, 1 + 5, 3 + 5 and 3 + 5
+-- offsets tried); and neither entry nor texture
 pub answered :
     map chooseAnswer
     (with 7 wedge 2 []
@@ -58,18 +60,21 @@ pub answered :
     ∷ with 7 (replicate 16 100) 2 []
     ∷ with 7 turns 2 turns
     ∷ with 0 turns 2 turns
+    ∷ caseOf 4 (0x0000 ∷ 0xFFFF ∷ 0xF730 ∷ 0xF730 ∷ []) 4 (sampleNeighbours 80) wedge sampleTable 2 []
     ∷ with 0 turns 2 []
     ∷ [])
-    ≡ answers 0 2 (pos 1) (pos 2) 1
-    ∷ answers 0 0 (pos 1) (pos 1) 109
-    ∷ answers 0 6 (pos 0) (pos 0) 445
-    ∷ answers 0 0 (pos 0) (pos 0) 0
-    ∷ answers 1 0 (pos 1) (pos 2) 0
-    ∷ answers 1 0 (pos 1) (pos 2) 0
+    ≡ answers 0 2 (pos 1) (pos 2) 1 60
+    ∷ answers 0 0 (pos 1) (pos 1) 109 40
+    ∷ answers 0 6 (pos 0) (pos 0) 445 14
+    ∷ answers 0 0 (pos 0) (pos 0) 0 15
+    ∷ answers 1 0 (pos 1) (pos 2) 0 78
+    ∷ answers 1 0 (pos 1) (pos 2) 0 8
+    ∷ answers 0 2 (pos 1) (pos 2) 1 28
     ∷ refused 10
     ∷ []
 unfolding bits clamped leastTo sumTo bytes rising tableOk nearestTo indexOf threshold contourOf
-    vertEdge horEdge ltBy brBy lt br sideDepth levelOf sideCost bestCost bestPattern chosen lengthsOk wordsOk chooseRefusal chooseAnswer
+    vertEdge horEdge ltBy brBy lt br sideDepth levelOf sideCost trialFrom bestCost bestPattern chosen triedAt tried
+    lengthsOk wordsOk chooseRefusal chooseAnswer
 answered = refl
 
 -- the cost of the first of these records, from its predicted block

@@ -9,7 +9,7 @@ use Rattle.choice.specs.Layers.{Layered}
 use Rattle.prediction.specs.SideAnswer.{sidesRefusal}
 use Rattle.choice.specs.Case.{Case, caseOf}
 use Rattle.choice.specs.Cases.{depthIn}
-use Rattle.choice.specs.Search.{bestTrial, bestCost, patternAt, bestPattern}
+use Rattle.choice.specs.Search.{bestTrial, bestCost, patternAt, bestPattern, tried}
 
 -- a case without patterns: what the cost of one pattern depends on
 abbrev pub blockCase : ℕ → List ℕ → List ℕ → List ℕ → ℕ → Case
@@ -37,7 +37,8 @@ pub record SidesOf (C : Case) (w trial0 trial1 cost : ℕ) : Type 0 where
   pub second : trial1 ≡ bestTrial C w true
   pub its-cost : cost ≡ bestCost C w
 
--- the number of the chosen pattern, those of its offsets, and its cost
-pub record PickedOf (C : Case) (number trial0 trial1 cost : ℕ) : Type 0 where
+-- the number of the chosen pattern, those of its offsets, its cost, and how many offsets were tried in all
+pub record PickedOf (C : Case) (number trial0 trial1 cost count : ℕ) : Type 0 where
   pub best : number ≡ bestPattern C
   pub sides : SidesOf C (patternAt C number) trial0 trial1 cost
+  pub counted : count ≡ tried C

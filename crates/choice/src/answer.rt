@@ -52,7 +52,8 @@ fn wide(x: u32) -> usize
     x as usize
 }
 
-// The record of least cost, first in the order between equals, and its cost; or refusal 1, 2, 3, 5, 4 or 10. An empty texture is none.
+// The record of least cost, first in the order between equals, its cost, and how many offsets were tried; or refusal 1, 2, 3, 5, 4 or 10.
+// An empty texture is none.
 pub fn choose(
     n: usize,
     list: &[u64],
@@ -86,5 +87,5 @@ pub fn choose(
         wide(reach),
         texture,
     );
-    Choice::Chosen(record_of(count, picked), picked.cost)
+    Choice::Chosen(record_of(count, picked), picked.cost, picked.tried)
 }

@@ -11,8 +11,8 @@ pub use answer::choose;
 use record::Record;
 pub use refusal::choose_refusal;
 
-// What `choose` answers: the chosen record with its cost, or the number of the refusal.
+// What `choose` answers: the chosen record, its cost, and how many offsets were tried; or the number of the refusal.
 pub enum Choice {
-    Chosen(Record, u32),
+    Chosen(Record, u32, u32),
     Refused(u8),
 }

@@ -10,11 +10,11 @@ ghost use Rattle.pattern.specs.Size.{sizeOk};
 ghost use Rattle.pattern.specs.Contour.{contourOf};
 ghost use Rattle.pattern.specs.Words.{patternNumber, patternsOf};
 ghost use Rattle.depth_table.specs.Table.{tableOk, indexOf};
-ghost use Rattle.choice.specs.Trial.{TrialOf};
+ghost use Rattle.choice.specs.Trial.{TrialOf, triedBy};
 ghost use Rattle.choice.specs.Case.{caseOf};
 ghost use Rattle.choice.specs.Refusal.{chooseRefusal};
 ghost use Rattle.choice.specs.Cases.{sideCase};
-ghost use Rattle.choice.specs.Search.{trialCost};
+ghost use Rattle.choice.specs.Search.{trialCost, triedAt};
 ghost use Rattle.choice.specs.Picked.{blockCase, Weighable, Prepared, CaseIndices, SidesOf, PickedOf};
 use crate::cases::case_depth;
 use crate::cases::side_case;
@@ -81,14 +81,26 @@ fn best_offset(
     best_of_part(original, below, planes, part, table, DepthIndex(at), reach)
 }
 
-// The numbers of the best offsets of both partitions of a pattern, and what it costs there.
+// How many offsets are tried for a partition, by the first one of least cost: up to it where it costs 0, else all in reach.
+fn tried_by(best: Trial, reach: usize) -> u32
+    requires { ⌜ (best .number ≤ 510) × (reach ≤ 255) ⌝ }
+    ensures { λ r. ⌜ (r ≡ triedBy (best .number) (best .cost) (2 * reach)) × (r ≤ 511) ⌝ }
+{
+    if best.cost == 0 {
+        return best.number as u32 + 1;
+    }
+    2 * reach as u32 + 1
+}
+
+// The numbers of the best offsets of both partitions of a pattern, what it costs there, and how many offsets were tried.
 struct Sides {
     trial0: usize,
     trial1: usize,
     cost: u32,
+    tried: u32,
 }
 
-// The best offset of each partition of a pattern, and the cost of both.
+// The best offset of each partition of a pattern, the cost of both, and how many offsets were tried for both.
 fn best_sides(
     n: usize,
     p: Pattern,
@@ -103,7 +115,8 @@ fn best_sides(
     requires { ⌜ Weighable n (patternNumber p) (now border) (now original) (now table) reach
         × Prepared n (now border) (now original) (now table) (now below) (now planes) (now indices) ⌝ }
     ensures { λ r. ⌜ SidesOf (blockCase n (now (border .entry)) (now (original .entry)) (now (table .entry)) reach) (patternNumber p)
-        (r .trial0) (r .trial1) (r .cost) ⌝ }
+        (r .trial0) (r .trial1) (r .cost)
+        × (r .tried ≡ triedAt (blockCase n (now (border .entry)) (now (original .entry)) (now (table .entry)) reach) (patternNumber p)) ⌝ }
 {
     let k = side_case(n, p, false);
     let unmarked = best_offset(
@@ -133,10 +146,13 @@ fn best_sides(
         indices,
     );
     let cost = unmarked.cost + marked.cost;
+    let tried0 = tried_by(unmarked, reach);
+    let tried1 = tried_by(marked, reach);
     Sides {
         trial0: unmarked.number,
         trial1: marked.number,
         cost,
+        tried: tried0 + tried1,
     }
 }
 
@@ -174,15 +190,16 @@ fn last_pattern(count: usize, texture: usize) -> usize
     0
 }
 
-// The number of the chosen pattern, those of its offsets, and its cost.
+// The number of the chosen pattern, those of its offsets, its cost, and how many offsets were tried for all patterns.
 pub(crate) struct Picked {
     pub number: usize,
     pub trial0: usize,
     pub trial1: usize,
     pub cost: u32,
+    pub tried: u32,
 }
 
-// The first pattern of least cost.
+// The first pattern of least cost, and how many offsets were tried for all patterns.
 pub(crate) fn best_pattern(
     n: usize,
     list: &[u64],
@@ -198,7 +215,7 @@ pub(crate) fn best_pattern(
     ensures { λ r. ⌜ PickedOf
         (caseOf n (patternsOf n (now (list .entry))) count (now (border .entry)) (now (original .entry)) (now (table .entry)) reach
         (now (texture .entry)))
-        (r .number) (r .trial0) (r .trial1) (r .cost) ⌝ }
+        (r .number) (r .trial0) (r .trial1) (r .cost) (r .tried) ⌝ }
 {
     let below = below_layers(original);
     let planes = bit_planes(original);
@@ -217,6 +234,7 @@ pub(crate) fn best_pattern(
         &planes,
         &indices,
     );
+    let mut tried = best.tried;
     for p in 1..end {
         let next = best_sides(
             n,
@@ -229,6 +247,7 @@ pub(crate) fn best_pattern(
             &planes,
             &indices,
         );
+        tried += next.tried;
         if next.cost < best.cost {
             at = p;
             best = next;
@@ -239,5 +258,6 @@ pub(crate) fn best_pattern(
         trial0: best.trial0,
         trial1: best.trial1,
         cost: best.cost,
+        tried,
     }
 }

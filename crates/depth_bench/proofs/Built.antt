@@ -2,14 +2,14 @@
 use Prim.Native.Nat.{ℕ, zero, suc, _*_, _/_, _^_, _≤_, _<_}
 use mathlib.Core.Bool.{Bool, true, false, cond, _&&_}
 use mathlib.Core.List.{List}
-use mathlib.Core.Path.{_≡_, refl, sym, ap, subst, _∙_}
+use mathlib.Core.Path.{_≡_, refl, sym, subst, _∙_}
 use native.Mathlib.Omega.{arith}
 use borrow.Author.Tests.{le-leb, lt-ltb, ltb-true}
 use lib.Dec.{eqb, leb, ltb}
 use lib.ListN.{length, getD, replicate, length-replicate}
 use lib.Pow.{pow-pos}
 use Rattle.arith.specs.Checks.{unless, refused, given, answer}
-use Rattle.arith.proofs.CheckLaws.{answer-given, answer-refused, given-means, refused-means}
+use Rattle.arith.proofs.CheckLaws.{answer-given, given-means, refused-means}
 use Rattle.depth_table.specs.Table.{tableOk}
 use Rattle.pattern.specs.Size.{sizeOk, wordOk}
 use Rattle.pattern.specs.Words.{greatestWords, fourWords, fourAt, wholePatterns, patternAt, patternsOf}
@@ -24,11 +24,9 @@ use Rattle.wedgelet.proofs.WedgeletLaws.{list-some, entry-lt}
 use Rattle.choice.specs.Case.{Case, caseOf}
 use Rattle.choice.specs.Refusal.{lengthsOk, wordsOk, chooseRefusal}
 use Rattle.choice.proofs.AcceptLaws.{words-all, refused-size, accepted}
-use Rattle.choice.specs.Record.{LeastRecord}
 use Rattle.record.specs.declared.Record.{Record}
-use Rattle.choice.specs.Search.{chosen}
-use Rattle.choice.specs.Answer.{chooseAnswer}
-use Rattle.choice.proofs.LeastLaws.{chosen-least}
+use Rattle.choice.specs.Answer.{chosenAll, chooseAnswer, LeastGiven}
+use Rattle.choice.proofs.LeastLaws.{answer-least}
 use Rattle.depth_bench.specs.declared.Choice.{Choice}
 use Rattle.depth_bench.specs.Built.{builtList, builtCase}
 use Rattle.depth_bench.specs.Structs.{choiceStruct, LeastChoice}
@@ -98,13 +96,14 @@ never-refused n number size e =
 -- ---- the answer as C gets it
 
 -- no number of a refusal is 0, so that a choice whose refusal is 0 is the one that was given
-least-by : (C : Case) (k : ℕ) (a : Record × ℕ) → (k ≡ 0 → LeastRecord C (a .0) (a .1)) → LeastChoice C (choiceStruct (answer k a))
-least-by C zero a h z = h refl
+least-by :
+    (C : Case) (k : ℕ) (a : Record × ℕ × ℕ) → LeastGiven C (answer k a) → LeastChoice C (choiceStruct (answer k a))
+least-by C zero a h z = h
 least-by C (suc k) a h z = absurd (omega arith)
 
 pub least-told : (C : Case) → LeastChoice C (choiceStruct (chooseAnswer C))
 unfolding chooseAnswer
-least-told C = least-by C (chooseRefusal C) (chosen C) (λ e. chosen-least C (accepted C e .some))
+least-told C = least-by C (chooseRefusal C) (chosenAll C) (answer-least C)
 
 -- ---- the refusals of a choice
 
@@ -165,12 +164,6 @@ module _ (n : ℕ) (s o t : List ℕ) (R : ℕ) (x : List ℕ) where
       {words : List ℕ} {count : ℕ} → words ≡ listAfter n (replicate mostWords 0) → count ≡ length (wedgeletList n)
       → caseOf n (patternsOf n words) count s o t R x ≡ builtCase n s o t R x
   built-same e k = λ i. caseOf n (patternsOf n (e i)) (k i) s o t R x
-
-  -- what is refused before the list is built is the choice's refusal
-  pub refused-built : {r : ℕ} → r ≡ chooseRefusal (builtCase n s o t R x) → (r ≡ 0 → ⊥) → refused r ≡ chooseAnswer (builtCase n s o t R x)
-  unfolding chooseAnswer
-  refused-built e h =
-      ap refused e ∙ answer-refused (chooseRefusal (builtCase n s o t R x)) (chosen (builtCase n s o t R x)) (λ z. h (e ∙ z))
 
   -- what is not refused has an allowed size
   pub accepted-size : {r : ℕ} → r ≡ chooseRefusal (builtCase n s o t R x) → r ≡ 0 → sizeOk n ≡ true

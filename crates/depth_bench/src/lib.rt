@@ -28,7 +28,7 @@ pub struct Prediction {
     pub marks: u32,
 }
 
-// The chosen record and its cost, or the number of the refusal beside 0.
+// The chosen record, its cost, and how many offsets were tried; or the number of the refusal beside 0.
 #[repr(C)]
 pub struct Choice {
     pub refusal: u32,
@@ -37,6 +37,7 @@ pub struct Choice {
     pub off0: i32,
     pub off1: i32,
     pub cost: u32,
+    pub tried: u32,
 }
 
 // The words of a pattern, lowest bit first: bit y * n + x is the mark of sample (x, y), so that for n = 16 word k has rows 4k to 4k + 3,
@@ -101,6 +102,7 @@ fn refused(number: u8) -> Choice
         off0: 0,
         off1: 0,
         cost: 0,
+        tried: 0,
     }
 }
 
@@ -109,13 +111,14 @@ fn told(answer: choice::Choice) -> Choice
     ensures { λ r. ⌜ r ≡ choiceStruct (chooseTold answer) ⌝ }
 {
     match answer {
-        choice::Choice::Chosen(best, cost) => Choice {
+        choice::Choice::Chosen(best, cost, tried) => Choice {
             refusal: 0,
             kind: best.kind,
             entry: best.entry,
             off0: best.off0,
             off1: best.off1,
             cost,
+            tried,
         },
         choice::Choice::Refused(number) => refused(number),
     }

@@ -19,18 +19,20 @@ use Rattle.prediction.specs.Block.{sampleOf, predicted}
 use Rattle.choice.specs.Cost.{sideCost}
 use Rattle.choice.specs.Refusal.{lengthsOk, wordsOk, chooseRefusal}
 use Rattle.choice.specs.Record.{difference}
-use Rattle.choice.specs.Search.{bestCost, bestPattern, chosen}
+use Rattle.choice.specs.Search.{bestCost, triedAt, bestPattern, chosen, tried}
+use Rattle.choice.specs.Trial.{trialFrom}
 use Rattle.diagonal.specs.Law.{covered}
 use Rattle.diagonal.specs.Cases.{WorkedCases}
 
 pub worked-cases : WorkedCases
-unfolding bits clamped leastTo sameList transposedList listOf sumTo bytes rising tableOk nearestTo indexOf threshold contourOf candidate wedgelet holds keep ends starts wedgeletList asBuilt vertEdge horEdge ltBy brBy lt br sideDepth transposedNeighbours endsDecide levelOf sideCost lengthsOk wordsOk chooseRefusal sampleOf predicted difference bestCost bestPattern chosen covered
+unfolding bits clamped leastTo sameList transposedList listOf sumTo bytes rising tableOk nearestTo indexOf threshold contourOf candidate wedgelet holds keep ends starts wedgeletList asBuilt vertEdge horEdge ltBy brBy lt br sideDepth transposedNeighbours endsDecide levelOf trialFrom sideCost lengthsOk wordsOk chooseRefusal sampleOf predicted difference bestCost triedAt bestPattern chosen tried covered
 worked-cases =
     record {
       hold = refl;
       accepted = refl;
       which = refl;
       unequal = refl;
+      tried-are = refl;
       chosen-are = refl;
       chosen-transposed = refl;
       partner =

@@ -3,31 +3,32 @@
 use Prim.Native.Nat.{ℕ, zero, suc, _≤_}
 use mathlib.Core.Bool.{true}
 use mathlib.Core.List.{List}
-use mathlib.Core.Path.{_≡_, refl, sym, ap, subst, _∙_}
+use mathlib.Core.Path.{_≡_, refl, sym, ap, ap₂, subst, _∙_}
 use native.Mathlib.Nat.{le-antisymm}
 use native.Mathlib.Omega.{arith}
 use Rattle.arith.specs.Checks.{given, answer}
 use Rattle.arith.proofs.Bools.{both-of}
 use Rattle.arith.proofs.CheckLaws.{answer-given}
 use Rattle.wedgelet.specs.Answer.{asBuilt}
-use Rattle.wedgelet.proofs.AnswerLaws.{built-is, wedgelets-build}
+use Rattle.wedgelet.proofs.AnswerLaws.{Built, built-is, wedgelets-build}
 use Rattle.prediction.specs.Transposed.{endsDecide, EndsDecide}
 use Rattle.prediction.proofs.SideTransposedLaws.{ends-transposed}
 use Rattle.choice.specs.Case.{Case}
 use Rattle.choice.specs.Refusal.{chooseRefusal}
 use Rattle.choice.specs.Record.{Within, LeastRecord}
 use Rattle.record.specs.declared.Record.{Record}
-use Rattle.choice.specs.Search.{chosen}
-use Rattle.choice.specs.Answer.{chooseAnswer}
+use Rattle.choice.specs.Search.{chosen, tried}
+use Rattle.choice.specs.Answer.{chosenAll, chooseAnswer}
 use Rattle.choice.proofs.AcceptLaws.{Accepted, accepted}
 use Rattle.choice.proofs.LeastLaws.{chosen-least, one-least}
 use Rattle.depth_bench.specs.Structs.{choiceStruct}
 use Rattle.depth_bench.proofs.Built.{list-as-built, least-told}
 use Rattle.depth_bench.proofs.PatternLaws.{pattern-answers}
-use Rattle.diagonal.specs.Law.{transposedCase, AnswersLeast, OnePartner, OneCost, covered, caseForC, chosenForC, LawForC, DiagonalLaw}
+use Rattle.diagonal.specs.Law.{transposedCase, AnswersLeast, OnePartner, OneCost, covered, caseForC, chosenForC, transposedForC, LawForC, DiagonalLaw}
 use Rattle.diagonal.proofs.RecordLaws.{contour-answers, predict-writes}
 use Rattle.diagonal.proofs.TransposedLaws.{case-twice, refusal-transposed}
 use Rattle.diagonal.proofs.PartnerLaws.{one-partner}
+use Rattle.diagonal.proofs.TriedLaws.{tried-transposed}
 
 -- what a case needs for its law
 record Fit (C : Case) : Type 0 where
@@ -44,15 +45,15 @@ fit C e h =
 -- ---- the least cost
 
 module _ (C : Case) (passes : chooseRefusal C ≡ 0) where
-  answered : chooseAnswer C ≡ given (chosen C)
+  answered : chooseAnswer C ≡ given (chosenAll C)
   unfolding chooseAnswer
-  answered = sym (answer-given (chooseRefusal C) (chosen C) passes)
+  answered = sym (answer-given (chooseRefusal C) (chosenAll C) passes)
 
   answers-least : AnswersLeast C
   answers-least =
       let o = one-least C passes in
       let u = o .only (chosen C .0) (chosen C .1) (chosen-least C (accepted C passes .some)) in
-      record { one = o; answers = answered ∙ (λ i. given (u .0 i, u .1 i)) }
+      record { one = o; answers = answered ∙ (λ i. given (u .0 i, u .1 i, tried C)) }
 
 -- ---- equal costs
 
@@ -71,8 +72,15 @@ module _ (C : Case) (f : Fit C) where
         ends = ends-transposed (C .n) (C .neighbours) (fine .lengths .bordered) (omega (arith, fine .low)) (f .ends);
       }
 
+  as-built : Built (C .n) (C .list) (C .count)
+  as-built = built-is (C .n) (C .list) (C .count) (f .built)
+
   partners : (r : Record) → Within C r → OnePartner C r
-  partners = one-partner C fine (built-is (C .n) (C .list) (C .count) (f .built)) (f .ends)
+  partners = one-partner C fine as-built (f .ends)
+
+  -- as many offsets are tried
+  tried-same : tried (transposedCase C) ≡ tried C
+  tried-same = tried-transposed C fine as-built (f .ends)
 
 -- the transposed case costs no more
 cost-le : (C : Case) → Fit C → chosen (transposedCase C) .1 ≤ chosen C .1
@@ -95,13 +103,14 @@ one-cost C f =
       chosen-transposed = chosen D .0;
       cost = chosen C .1;
       answers = answered C (f .passes);
-      answers-transposed = answered D (g .passes) ∙ ap (λ (c : ℕ). given (chosen D .0, c)) (cost-same C f);
+      answers-transposed =
+          answered D (g .passes) ∙ ap₂ (λ (c t : ℕ). given (chosen D .0, c, t)) (cost-same C f) (tried-same C f);
     }
 
 -- ---- the choice for C
 
 -- an answer whose struct has no refusal was given
-not-refused : (k : ℕ) (a : Record × ℕ) → choiceStruct (answer k a) .refusal ≡ 0 → k ≡ 0
+not-refused : (k : ℕ) (a : Record × ℕ × ℕ) → choiceStruct (answer k a) .refusal ≡ 0 → k ≡ 0
 not-refused zero a h = refl
 not-refused (suc k) a h = absurd (omega arith)
 
@@ -111,7 +120,14 @@ module _ (n : ℕ) (s o t : List ℕ) (R : ℕ) (x : List ℕ) (given-one : chos
 
   passes : chooseRefusal C ≡ 0
   unfolding chooseAnswer
-  passes = not-refused (chooseRefusal C) (chosen C) given-one
+  passes = not-refused (chooseRefusal C) (chosenAll C) given-one
+
+  -- the two structs that C gets
+  got : chosenForC n s o t R x ≡ choiceStruct (given (chosenAll C))
+  got = ap choiceStruct (answered C passes)
+
+  got-transposed : transposedForC n s o t R x ≡ choiceStruct (given (chosenAll (transposedCase C)))
+  got-transposed = ap choiceStruct (answered (transposedCase C) (refusal-transposed C passes))
 
   fine-for-c : Accepted C
   fine-for-c = accepted C passes
@@ -123,13 +139,13 @@ module _ (n : ℕ) (s o t : List ℕ) (R : ℕ) (x : List ℕ) (given-one : chos
   law-for-c =
       record {
         as-built = list-as-built n (fine-for-c .size);
-        least = least-told C given-one;
+        least = least-told C given-one .0;
+        counted = ap (λ c. c .tried) got;
         patterns = λ r h. pattern-answers n s o t R x (fine-for-c .size) (fine-for-c .lengths .optional) (r .kind) (r .entry) (h .pattern-in);
-        accepted = ap (λ a. choiceStruct a .refusal) (answered (transposedCase C) (refusal-transposed C passes));
+        accepted = ap (λ c. c .refusal) got-transposed;
         partners = λ d. partners C (fit-for-c d);
-        costs = λ d. ap (λ a. choiceStruct a .cost) (answered (transposedCase C) (refusal-transposed C passes))
-            ∙ cost-same C (fit-for-c d)
-            ∙ sym (ap (λ a. choiceStruct a .cost) (answered C passes));
+        costs = λ d. ap (λ c. c .cost) got-transposed ∙ cost-same C (fit-for-c d) ∙ sym (ap (λ c. c .cost) got);
+        counts = λ d. ap (λ c. c .tried) got-transposed ∙ tried-same C (fit-for-c d) ∙ sym (ap (λ c. c .tried) got);
       }
 
 pub diagonal-law : DiagonalLaw

@@ -3,4 +3,5 @@ pub mod Cases
 pub mod TransposedLaws
 pub mod RecordLaws
 pub mod PartnerLaws
+pub mod TriedLaws
 pub mod Diagonal

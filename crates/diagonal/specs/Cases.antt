@@ -10,7 +10,7 @@ use Rattle.prediction.specs.Cases.{sampleNeighbours}
 use Rattle.choice.specs.Case.{Case, caseOf}
 use Rattle.choice.specs.Refusal.{chooseRefusal}
 use Rattle.record.specs.declared.Record.{Record}
-use Rattle.choice.specs.Search.{chosen}
+use Rattle.choice.specs.Search.{chosen, tried}
 use Rattle.diagonal.specs.Law.{transposedCase, Partner, Alike, covered}
 
 -- the wedgelet list for n = 4
@@ -49,12 +49,23 @@ tied = with 80 edge 1 []
 abbrev pub single : Case
 single = caseOf 4 (0xFFF0 ∷ []) 1 (sampleNeighbours 81) edge sampleTable 0 []
 
+-- the same with spots, and with a reach of 2
+abbrev pub tiedSpots : Case
+tiedSpots = with 80 spots 1 []
+
+abbrev pub alone : Case
+alone = caseOf 4 (0xFFF0 ∷ []) 1 (sampleNeighbours 81) edge sampleTable 2 []
+
 abbrev pub cases : List Case
 cases = edged ∷ spotted ∷ tied ∷ single ∷ []
 
 -- the chosen costs, for the case and for the transposed case
 abbrev pub costs : Case → ℕ × ℕ
 costs C = (chosen C .1, chosen (transposedCase C) .1)
+
+-- the offsets tried, likewise
+abbrev pub counts : Case → ℕ × ℕ
+counts C = (tried C, tried (transposedCase C))
 
 -- the law on one case: where it is covered, the two costs are equal
 abbrev pub holdsOf : Case → Bool
@@ -72,6 +83,8 @@ pub record WorkedCases : Type 0 where
   pub which : map covered cases ≡ true ∷ true ∷ false ∷ false ∷ []
   -- the costs of the other two differ: neither premise can be dropped
   pub unequal : map costs (tied ∷ single ∷ []) ≡ (73, 97) ∷ (557, 221) ∷ []
+  -- as many offsets are tried for the first case and the transposed one; not where the runs tie, nor with a list of one pattern
+  pub tried-are : map counts (edged ∷ tiedSpots ∷ alone ∷ []) ≡ (422, 422) ∷ (436, 438) ∷ (8, 10) ∷ []
   -- entry 24, 0xEC88, and its partner for the transposed block, entry 33, 0xFC80, are the chosen ones of the first case
   pub chosen-are : chosen edged ≡ (entry 24, 97)
   pub chosen-transposed : chosen (transposedCase edged) ≡ (entry 33, 97)

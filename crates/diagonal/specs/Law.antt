@@ -18,6 +18,7 @@ use Rattle.prediction.specs.Transposed.{transposedNeighbours, endsDecide}
 use Rattle.choice.specs.Case.{Case, caseOf}
 use Rattle.choice.specs.Refusal.{chooseRefusal}
 use Rattle.choice.specs.Record.{Within, patternOf, predictionOf, costOf, LeastRecord, OneLeast}
+use Rattle.choice.specs.Search.{tried}
 use Rattle.record.specs.declared.Record.{Record}
 use Rattle.choice.specs.Answer.{chooseAnswer}
 use Rattle.depth_bench.specs.declared.Choice.{Choice}
@@ -26,10 +27,11 @@ use Rattle.depth_bench.specs.Structs.{choiceStruct, chosenRecord}
 
 -- ---- the least cost
 
--- Exactly one record within the reach is the one of least cost, first in the order between equals, and `choose` answers it with its cost.
+-- Exactly one record within the reach is the one of least cost, first in the order between equals, and `choose` answers it with its cost
+-- and the number of offsets tried.
 pub record AnswersLeast (C : Case) : Type 0 where
   pub one : OneLeast C
-  pub answers : chooseAnswer C ≡ given (one .chosen, one .cost)
+  pub answers : chooseAnswer C ≡ given (one .chosen, one .cost, tried C)
 
 -- ---- the transposed block
 
@@ -67,13 +69,14 @@ pub record OnePartner (C : Case) (r : Record) : Type 0 where
   pub only : (s : Record) → Partner C r s → s ≡ partner
   pub alike : Alike C r partner
 
--- The cost in the answers for the case and for the transposed case is one number. The two records need not be partners.
+-- The cost in the answers for the case and for the transposed case is one number, and so is the count of offsets tried. The two records
+-- need not be partners.
 pub record OneCost (C : Case) : Type 0 where
   pub chosen : Record
   pub chosen-transposed : Record
   pub cost : ℕ
-  pub answers : chooseAnswer C ≡ given (chosen, cost)
-  pub answers-transposed : chooseAnswer (transposedCase C) ≡ given (chosen-transposed, cost)
+  pub answers : chooseAnswer C ≡ given (chosen, cost, tried C)
+  pub answers-transposed : chooseAnswer (transposedCase C) ≡ given (chosen-transposed, cost, tried C)
 
 -- The cases of which this is said: the list is the one as built, and the runs of the neighbours differ from end to end by unequal
 -- amounts or end on equal samples.
@@ -101,13 +104,16 @@ module _ (n : ℕ) (neighbours original table : List ℕ) (reach : ℕ) (texture
     pub as-built : asBuilt n (caseForC .list) (caseForC .count) ≡ true
     -- it answers the record of least cost
     pub least : LeastRecord caseForC (chosenRecord chosenForC) (chosenForC .cost)
+    -- and how many offsets were tried
+    pub counted : chosenForC .tried ≡ tried caseForC
     -- what `depth_bench_pattern_of` answers for a record within the reach is its pattern
     pub patterns : (r : Record) → Within caseForC r → patternAnswer n (r .kind) (r .entry) texture ≡ given (patternOf caseForC r)
     -- the choice for the transposed block is not refused
     pub accepted : transposedForC .refusal ≡ 0
-    -- where the runs decide, every record within the reach has exactly one partner, and both answers have the same cost
+    -- where the runs decide, every record within the reach has exactly one partner, and both answers have the same cost and count
     pub partners : endsDecide n neighbours ≡ true → (r : Record) → Within caseForC r → OnePartner caseForC r
     pub costs : endsDecide n neighbours ≡ true → transposedForC .cost ≡ chosenForC .cost
+    pub counts : endsDecide n neighbours ≡ true → transposedForC .tried ≡ chosenForC .tried
 
 -- ---- the law
 
@@ -131,7 +137,7 @@ pub record DiagonalLaw : Type 0 where
   pub accepted : (C : Case) → chooseRefusal C ≡ 0 → chooseRefusal (transposedCase C) ≡ 0
   -- every record within the reach has exactly one partner
   pub partners : (C : Case) → chooseRefusal C ≡ 0 → covered C ≡ true → (r : Record) → Within C r → OnePartner C r
-  -- the two chosen costs are equal
+  -- the two chosen costs are equal, and so are the counts of offsets tried
   pub costs : (C : Case) → chooseRefusal C ≡ 0 → covered C ≡ true → OneCost C
   -- and all of it for C
   pub for-c :

@@ -37,6 +37,7 @@ fileWrittenOf (refused number) = record { refusal = number; length = 0 }
 fileWrittenOf (given count) = record { refusal = 0; length = count }
 
 -- a refusal has its number, and 0 in the other fields
-abbrev pub chosenOf : Answer (Record × ℕ) → FileChosen
-chosenOf (refused number) = record { refusal = number; kind = 0; entry = 0; off0 = pos 0; off1 = pos 0; cost = 0 }
-chosenOf (given (r, cost)) = record { refusal = 0; kind = r .kind; entry = r .entry; off0 = r .off0; off1 = r .off1; cost = cost }
+abbrev pub chosenOf : Answer (Record × ℕ × ℕ) → FileChosen
+chosenOf (refused number) = record { refusal = number; kind = 0; entry = 0; off0 = pos 0; off1 = pos 0; cost = 0; tried = 0 }
+chosenOf (given (r, cost, count)) =
+    record { refusal = 0; kind = r .kind; entry = r .entry; off0 = r .off0; off1 = r .off1; cost = cost; tried = count }

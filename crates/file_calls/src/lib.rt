@@ -37,7 +37,7 @@ pub struct FileWritten {
     pub length: usize,
 }
 
-// What a choice answers: the record of least cost and its cost, or the number of the refusal beside 0.
+// What a choice answers: the record of least cost, its cost, and how many offsets were tried; or the number of the refusal beside 0.
 #[repr(C)]
 pub struct FileChosen {
     pub refusal: u32,
@@ -46,6 +46,7 @@ pub struct FileChosen {
     pub off0: i32,
     pub off1: i32,
     pub cost: u32,
+    pub tried: u32,
 }
 
 // A byte as a longer number.
@@ -156,13 +157,14 @@ pub extern "C" fn file_calls_choose(
 {
     let answer = choice::choose(n, list, count, border, original, table, reach, texture);
     match answer {
-        Choice::Chosen(best, cost) => FileChosen {
+        Choice::Chosen(best, cost, tried) => FileChosen {
             refusal: 0,
             kind: best.kind,
             entry: best.entry,
             off0: best.off0,
             off1: best.off1,
             cost,
+            tried,
         },
         Choice::Refused(refusal) => FileChosen {
             refusal: wide(refusal),
@@ -171,6 +173,7 @@ pub extern "C" fn file_calls_choose(
             off0: 0,
             off1: 0,
             cost: 0,
+            tried: 0,
         },
     }
 }

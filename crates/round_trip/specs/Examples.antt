@@ -15,6 +15,7 @@ use Rattle.prediction.specs.Block.{sampleOf, predicted}
 use Rattle.choice.specs.Cost.{sideCost}
 use Rattle.choice.specs.Refusal.{wordsOk}
 use Rattle.choice.specs.Search.{bestCost, bestPattern, chosen}
+use Rattle.choice.specs.Trial.{trialFrom}
 use Rattle.sheet_grid.specs.Neighbours.{firstPresent, substitutedBy, substituted, walked}
 use Rattle.sheet_grid.specs.Samples.{written, cut}
 use Rattle.sheet.specs.Checks.{lengthsOkBy, startRefusalBy}
@@ -46,7 +47,7 @@ pub record ComposedSample : Type 0 where
 
 pub composed-sample : ComposedSample
 unfolding clamped listOf nearestTo indexOf vertEdge horEdge ltBy brBy lt br sideDepth levelOf sampleOf predicted leastTo sumTo sideCost
-    bestCost bestPattern chosen firstPresent substitutedBy substituted walked written cut placedSamples composedTo bytes rising tableOk
-    wordsOk lengthsOkBy startRefusalBy over composeLengthsOk choiceRefusal composeRefusal composeAnswer composeAfter composeRecords
-    recordIn lentNumber fieldsOf
+    trialFrom bestCost bestPattern chosen firstPresent substitutedBy substituted walked written cut placedSamples composedTo
+    bytes rising tableOk wordsOk lengthsOkBy startRefusalBy over composeLengthsOk choiceRefusal composeRefusal composeAnswer
+    composeAfter composeRecords recordIn lentNumber fieldsOf
 composed-sample = record { answer = refl; records = refl; samples = refl }

@@ -1,5 +1,5 @@
 -- Composing: no choice or placing that it makes is refused where the checks pass.
-use Prim.Native.Nat.{ℕ, _-_, _*_, _≤_}
+use Prim.Native.Nat.{ℕ, _*_, _≤_}
 use mathlib.Core.Bool.{Bool, true, false, cond}
 use mathlib.Core.List.{List, []}
 use mathlib.Core.Logic.{_⊎_, inl, inr, ⊎-elim}
@@ -19,6 +19,7 @@ use Rattle.choice.specs.Search.{chosen}
 use Rattle.choice.proofs.AcceptLaws as accept
 use Rattle.choice.proofs.AcceptLaws.{words-at, accepted}
 use Rattle.choice.proofs.LeastLaws.{chosen-least}
+use Rattle.choice.proofs.AnswerLaws.{refused-for, given-for}
 use Rattle.sheet_grid.specs.Samples.{cut, written}
 use Rattle.sheet_grid.proofs.NeighbourLaws.{length-neighbours}
 use Rattle.sheet_grid.proofs.SampleLaws.{length-cut}
@@ -27,7 +28,7 @@ use Rattle.sheet.specs.State.{nextX, nextY, Open, Lengths}
 use Rattle.record.specs.Meaning.{recordRefusal}
 use Rattle.pattern.specs.Answer.{textured}
 use Rattle.arith.specs.Checks.{Answer, given, refused, lent}
-use Rattle.arith.proofs.CheckLaws.{given-means, refused-means, lent-refused}
+use Rattle.arith.proofs.CheckLaws.{lent-refused}
 use Rattle.choice.specs.Answer.{chooseAnswer}
 use Rattle.sheet_grid.specs.Neighbours.{neighbours}
 use Rattle.sheet.specs.Place.{nextTexture, drawRefusal, placeRefusalBy, placeRefusal}
@@ -124,18 +125,17 @@ module _ (w x y : ℕ) (C : Case) (s : List ℕ) where
 
   -- a record that was chosen is drawn
   pub chosen-drawn :
-      {r : Record} {cost : ℕ} {u : List ℕ} → given (r, cost) ≡ chooseAnswer C
+      {r : Record} {cost count : ℕ} {u : List ℕ} → given (r, cost, count) ≡ chooseAnswer C
       → u ≡ lent (drawRefusal case r) (written (C .n) w x y (predictionOf case r) s) s → u ≡ chosenBlock (C .n) w x y C s
-  unfolding chooseAnswer chosenBlock
-  chosen-drawn {r} {cost} {u} e q =
-      let m = given-means (chooseRefusal C) (chosen C) (r, cost) (sym e) in
-      let b : r ≡ chosen C .0 = sym (ap (λ (p : Record × ℕ). p .0) (m .1)) in
-      rw (m .0) (rw (b, chosen-sound C (m .0)) at q)
+  unfolding chosenBlock
+  chosen-drawn {r} {cost} {count} {u} e q =
+      let m = given-for C e in
+      rw (m .0) (rw (m .1, chosen-sound C (m .0)) at q)
 
   -- a choice that is refused alters nothing
   pub chosen-never : {k : ℕ} → refused k ≡ chooseAnswer C → s ≡ chosenBlock (C .n) w x y C s
-  unfolding chooseAnswer chosenBlock
-  chosen-never {k} e = lent-refused (chooseRefusal C) _ s (refused-means (chooseRefusal C) k (chosen C) (sym e) .1)
+  unfolding chosenBlock
+  chosen-never {k} e = lent-refused (chooseRefusal C) _ s (refused-for C e .1)
 
 -- the case and the block of the next place, from what the code has in hand
 module _ (S : Sheet) (T : Task) (s : List ℕ) {near own light : List ℕ} {x y : ℕ} (column : x ≡ nextX S) (row : y ≡ nextY S) (bordered : near ≡ neighbours (S .n) (S .width) (S .placed) s) (owned : own ≡ cut (S .n) (S .width) (nextX S) (nextY S) (T .original)) (lit : light ≡ nextTexture S (T .material .texture)) where
@@ -146,6 +146,6 @@ module _ (S : Sheet) (T : Task) (s : List ℕ) {near own light : List ℕ} {x y 
   case-next = rw (bordered, owned, lit)
 
   pub choose-next :
-      {a : Answer (Record × ℕ)} {u : List ℕ} → a ≡ chooseAnswer its → u ≡ chosenBlock (S .n) (S .width) x y its s
+      {a : Answer (Record × ℕ × ℕ)} {u : List ℕ} → a ≡ chooseAnswer its → u ≡ chosenBlock (S .n) (S .width) x y its s
       → (a ≡ chooseAnswer (composeCase S T s)) × (u ≡ composedNext S T s)
   choose-next p q = (p ∙ ap chooseAnswer case-next, rw (case-next, column, row) at q)

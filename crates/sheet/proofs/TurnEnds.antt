@@ -1,19 +1,19 @@
 -- What holds in a turn of the loop that composes, and at its ends.
-use Prim.Native.Nat.{ℕ, _-_, _≤_, _<_}
+use Prim.Native.Nat.{ℕ, _≤_, _<_}
 use mathlib.Core.Bool.{true}
 use mathlib.Core.List.{List}
-use mathlib.Core.Logic.{_⊎_, ⊎-elim}
+use mathlib.Core.Logic.{⊎-elim}
 use mathlib.Core.Path.{_≡_, sym, ap, ap₂, _∙_}
 use native.Mathlib.Omega.{arith}
 use lib.IntN.{ℤ}
 use lib.ListN.{length}
 use Rattle.arith.specs.Checks.{Answer, refused, given, answer}
 use Rattle.arith.specs.Lists.{listOf}
-use Rattle.arith.proofs.CheckLaws.{lent-refused, lent-given, given-means, refused-means}
+use Rattle.arith.proofs.CheckLaws.{lent-refused, lent-given}
 use Rattle.depth_table.specs.Table.{tableOk}
 use Rattle.choice.specs.Refusal.{chooseRefusal}
 use Rattle.record.specs.declared.Record.{Record}
-use Rattle.choice.specs.Search.{chosen}
+use Rattle.choice.proofs.AnswerLaws.{refused-for, given-for}
 use Rattle.choice.specs.Answer.{chooseAnswer}
 use Rattle.sheet.specs.State.{area, blocksOf, finished, Open, Lengths}
 use Rattle.depth_table.proofs.LevelLaws.{table-some}
@@ -67,29 +67,26 @@ module _ {S : Sheet} {T : Task} {state : Sheet} {samples : List ℕ} (t : Turn S
       choose-refusal state T samples (t .is-open) (t .lengths .inside) (t .lengths .few) (t .sound) ∙ t .refusal
 
   pub turn-refused : {number : ℕ} → refused number ≡ chooseAnswer (composeCase state T samples) → (number ≡ choiceRefusal S T) × (number ≡ 0 → ⊥)
-  unfolding chooseAnswer
   turn-refused {number} e =
-      let m = refused-means (chooseRefusal (composeCase state T samples)) number (chosen (composeCase state T samples)) (sym e) in
+      let m = refused-for (composeCase state T samples) e in
       (m .0 ∙ turn-refusal, λ z. m .1 (sym (m .0) ∙ z))
 
   -- and then nothing is drawn
   pub turn-kept : {number : ℕ} {u : List ℕ} → refused number ≡ chooseAnswer (composeCase state T samples) → u ≡ composedNext state T samples → u ≡ samples
-  unfolding chooseAnswer chosenBlock
+  unfolding chosenBlock
   turn-kept {number} e h =
-      let m = refused-means (chooseRefusal (composeCase state T samples)) number (chosen (composeCase state T samples)) (sym e) in
-      h ∙ sym (lent-refused (chooseRefusal (composeCase state T samples)) _ samples (m .1))
+      h ∙ sym (lent-refused (chooseRefusal (composeCase state T samples)) _ samples (refused-for (composeCase state T samples) e .1))
 
   -- or its record is chosen, and `place` does not refuse it
-  module _ {r : Record} {cost : ℕ} (e : given (r, cost) ≡ chooseAnswer (composeCase state T samples)) where
-    turn-means : (chooseRefusal (composeCase state T samples) ≡ 0) × (chosen (composeCase state T samples) ≡ (r, cost))
-    unfolding chooseAnswer
-    turn-means = given-means (chooseRefusal (composeCase state T samples)) (chosen (composeCase state T samples)) (r, cost) (sym e)
+  module _ {r : Record} {cost count : ℕ} (e : given (r, cost, count) ≡ chooseAnswer (composeCase state T samples)) where
+    turn-means : (chooseRefusal (composeCase state T samples) ≡ 0) × (r ≡ chosenNext state T samples)
+    turn-means = given-for (composeCase state T samples) e
 
     pub turn-none : choiceRefusal S T ≡ 0
     turn-none = sym turn-refusal ∙ turn-means .0
 
     pub turn-chosen : r ≡ chosenNext state T samples
-    turn-chosen = sym (ap (λ (p : Record × ℕ). p .0) (turn-means .1))
+    turn-chosen = turn-means .1
 
     pub turn-painted : {u : List ℕ} → u ≡ composedNext state T samples → u ≡ placedSamples state (T .material) samples r
     unfolding chosenBlock placedSamples

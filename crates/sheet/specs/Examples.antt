@@ -16,6 +16,7 @@ use Rattle.prediction.specs.Block.{sampleOf, predicted}
 use Rattle.choice.specs.Cost.{sideCost}
 use Rattle.record.specs.declared.Record.{Record}
 use Rattle.choice.specs.Search.{bestCost, bestPattern, chosen}
+use Rattle.choice.specs.Trial.{trialFrom}
 use Rattle.sheet_grid.specs.Neighbours.{firstPresent, substitutedBy, substituted, walked}
 use Rattle.sheet_grid.specs.Samples.{written, cut}
 use Rattle.sheet.specs.Checks.{lengthsOkBy, startRefusalBy}
@@ -101,5 +102,6 @@ pub record Composing : Type 0 where
 
 pub composing : Composing
 unfolding clamped listOf nearestTo indexOf vertEdge horEdge ltBy brBy lt br sideDepth levelOf sampleOf predicted
-    leastTo sumTo sideCost bestCost bestPattern chosen firstPresent substitutedBy substituted walked written cut placedSamples composedTo
+    leastTo sumTo sideCost trialFrom bestCost bestPattern chosen firstPresent substitutedBy substituted walked written cut placedSamples
+    composedTo
 composing = record { first = refl; second = refl; composed = refl }

@@ -114,7 +114,7 @@ impl Sheet {
         let last = self.blocks() as usize;
         for block in first..last {
             match self.compose_next(samples, original, list, count, table, reach, texture) {
-                Choice::Chosen(r, _) => {
+                Choice::Chosen(r, _, _) => {
                     self.placed = self.placed + 1;
                     records[block - first] = fields_of(r);
                 }

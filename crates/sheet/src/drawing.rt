@@ -144,9 +144,9 @@ pub(crate) fn choose_at(
         ⌜ now (samples .exit) ≡ chosenBlock n width x y C (now (samples .entry)) ⌝ }
 {
     match choice::choose(n, list, count, near, own, table, reach, light) {
-        Choice::Chosen(r, cost) => {
+        Choice::Chosen(r, cost, tried) => {
             draw(samples, width, n, x, y, near, list, count, table, light, r);
-            Choice::Chosen(r, cost)
+            Choice::Chosen(r, cost, tried)
         }
         Choice::Refused(number) => Choice::Refused(number),
     }

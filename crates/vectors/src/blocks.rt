@@ -33,7 +33,7 @@ pub(crate) fn predict(f: &[u64; FIELDS], border: &[u8], table: &[u8], block: &mu
     output::samples(block, true)
 }
 
-// `choose N COUNT REACH`: the record of least cost, and its cost.
+// `choose N COUNT REACH`: the record of least cost, its cost, and how many offsets were tried.
 pub(crate) fn choose(
     f: &[u64; FIELDS],
     list: &[u64],
@@ -47,12 +47,13 @@ pub(crate) fn choose(
     let reach = reader::short(f, 2);
     let answer = choice::choose(n, list, count, border, original, table, reach, texture);
     match answer {
-        Choice::Chosen(record, cost) => {
+        Choice::Chosen(record, cost, tried) => {
             output::number(record.kind as u64);
             output::number(record.entry as u64);
             output::signed(record.off0);
             output::signed(record.off1);
-            output::number(cost as u64)
+            output::number(cost as u64);
+            output::number(tried as u64)
         }
         Choice::Refused(r) => output::refused(r),
     }

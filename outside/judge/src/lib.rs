@@ -23,6 +23,7 @@ pub struct Choice {
     pub off0: i32,
     pub off1: i32,
     pub cost: u32,
+    pub tried: u32,
 }
 
 /// A pattern as `depth_bench.h` has it; a refusal has 0 in all words.
@@ -107,6 +108,7 @@ pub unsafe extern "C" fn judge_choose(
             off0: found.record.off0,
             off1: found.record.off1,
             cost: found.cost,
+            tried: found.tried,
         },
         Err(refusal) => Choice { refusal, ..Choice::default() },
     }

@@ -1,4 +1,4 @@
-//! Choice: the record of least cost.
+//! Choice: the record of least cost, and the number of offsets tried for it (document 02, Ask 3).
 
 use crate::block::{mark, pattern_at, patterns_of, size_allowed, words_of, Pattern};
 use crate::edges::edge_words;
@@ -17,11 +17,12 @@ pub struct Record {
     pub off1: i32,
 }
 
-/// The chosen record and its cost.
+/// The chosen record, its cost, and "how many offsets were tried in all".
 #[derive(Clone, Copy, Debug, PartialEq, Eq)]
 pub struct Choice {
     pub record: Record,
     pub cost: u32,
+    pub tried: u32,
 }
 
 /// "A list and its count, a border, the original, a table, a reach R (0 to 255) and optionally texture
@@ -100,24 +101,52 @@ pub fn cost(prediction: &[u8], original: &[u8]) -> u32 {
     prediction.iter().zip(original).map(|(&p, &o)| p.abs_diff(o) as u32).sum()
 }
 
+/// The cost of one side, the marked one where `marked` is true, with the offset for it: sample by sample from the prediction.
+fn side_cost(request: &Request, pattern: &Pattern, marked: bool, offset: i32) -> u32 {
+    let Request { n, border, original, table, .. } = *request;
+    let prediction = predicted(n, pattern, border, table, offset, offset);
+    let on_side = |i: &usize| mark(n, pattern, i % n, i / n) == marked;
+    (0..n * n).filter(on_side).map(|i| prediction[i].abs_diff(original[i]) as u32).sum()
+}
+
+/// The place of an offset, counted from 1, in the order 0, −1, 1, −2, 2 ..
+fn place(offset: i32) -> u32 {
+    2 * offset.unsigned_abs() + (offset >= 0) as u32
+}
+
+/// The number of offsets tried for each side of each pattern, summed: the place of the first that "gives cost 0 for that side", or all
+/// 2R + 1 where none does.
+fn tried_by_place(request: &Request) -> u32 {
+    let reach = request.reach as i32;
+    let mut tried = 0;
+    for (_, _, pattern) in patterns(request) {
+        for marked in [false, true] {
+            let free = (-reach..=reach).filter(|&offset| side_cost(request, &pattern, marked, offset) == 0);
+            tried += free.map(place).min().unwrap_or(2 * request.reach + 1);
+        }
+    }
+    tried
+}
+
 /// The choice by trying every record in the order of the tie rule; a later one needs a lesser cost.
 /// Refusals: 1, 2, 3, 5, 4, 10.
 pub fn choose_by_trial(request: &Request) -> Result<Choice, u32> {
     check(request)?;
     let Request { n, border, table, .. } = *request;
-    let mut best: Option<Choice> = None;
+    let mut best: Option<(Record, u32)> = None;
     for (kind, entry, pattern) in patterns(request) {
         for off0 in offsets(request.reach) {
             for off1 in offsets(request.reach) {
                 let prediction = predicted(n, &pattern, border, table, off0, off1);
                 let cost = cost(&prediction, request.original);
-                if best.is_none_or(|best| cost < best.cost) {
-                    best = Some(Choice { record: Record { kind, entry, off0, off1 }, cost });
+                if best.is_none_or(|(_, least)| cost < least) {
+                    best = Some((Record { kind, entry, off0, off1 }, cost));
                 }
             }
         }
     }
-    Ok(best.unwrap())
+    let (record, cost) = best.unwrap();
+    Ok(Choice { record, cost, tried: tried_by_place(request) })
 }
 
 /// The original's unmarked samples and its marked ones.
@@ -131,38 +160,53 @@ fn sides_of(n: usize, pattern: &Pattern, original: &[u8]) -> [Vec<u8>; 2] {
     sides
 }
 
-/// The first offset of least cost for the samples of one side, and that cost. A value's cost is worked out once.
-fn best_offset(request: &Request, samples: &[u8], depth: u8) -> (i32, u32) {
+/// What the trial of a side's offsets ends with: the first offset of least cost, that cost, and the number of offsets tried.
+struct Trial {
+    offset: i32,
+    cost: u32,
+    tried: u32,
+}
+
+/// "Offsets are tried for a side in the order of the tie rule. Once one gives cost 0 for that side, none later can replace it, so its
+/// trial ends there (at its first for a side without samples)." A value's cost is worked out once.
+fn try_offsets(request: &Request, samples: &[u8], depth: u8) -> Trial {
     let value_cost = |value: u8| samples.iter().map(|&sample| sample.abs_diff(value) as u32).sum();
     let index = nearest_index(request.table, depth) as i32;
     let mut costs: [Option<u32>; 256] = [None; 256];
-    let mut best: Option<(i32, u32)> = None;
+    let mut best = Trial { offset: 0, cost: u32::MAX, tried: 0 };
     for offset in offsets(request.reach) {
         let value = value_at(request.table, index + offset);
         let cost = *costs[value as usize].get_or_insert_with(|| value_cost(value));
-        if best.is_none_or(|best| cost < best.1) {
-            best = Some((offset, cost));
+        best.tried += 1;
+        if cost < best.cost {
+            (best.offset, best.cost) = (offset, cost);
+        }
+        if cost == 0 {
+            break;
         }
     }
-    best.unwrap()
+    best
 }
 
 /// The same choice with each side's offset found by itself: the cost is the sum of the two sides'
 /// costs, and an offset alters only its own side's. Refusals: 1, 2, 3, 5, 4, 10.
 pub fn choose(request: &Request) -> Result<Choice, u32> {
     check(request)?;
-    let mut best: Option<Choice> = None;
+    let mut best: Option<(Record, u32)> = None;
+    let mut tried = 0;
     for (kind, entry, pattern) in patterns(request) {
-        let (unmarked, marked) = depths_by_mark(request.n, &pattern, request.border);
+        let depths = depths_by_mark(request.n, &pattern, request.border);
         let sides = sides_of(request.n, &pattern, request.original);
-        let (off0, cost0) = best_offset(request, &sides[0], unmarked);
-        let (off1, cost1) = best_offset(request, &sides[1], marked);
-        let cost = cost0 + cost1;
-        if best.is_none_or(|best| cost < best.cost) {
-            best = Some(Choice { record: Record { kind, entry, off0, off1 }, cost });
+        let unmarked = try_offsets(request, &sides[0], depths.0);
+        let marked = try_offsets(request, &sides[1], depths.1);
+        let cost = unmarked.cost + marked.cost;
+        tried += unmarked.tried + marked.tried;
+        if best.is_none_or(|(_, least)| cost < least) {
+            best = Some((Record { kind, entry, off0: unmarked.offset, off1: marked.offset }, cost));
         }
     }
-    Ok(best.unwrap())
+    let (record, cost) = best.unwrap();
+    Ok(Choice { record, cost, tried })
 }
 
 /// "A record's pattern is the one the list has at its entry, or for kind 1 the outline of the texture

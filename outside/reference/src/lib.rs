@@ -1,5 +1,5 @@
-//! An independent implementation of document 01 with the changes that landed (blocks of 16; the outline's threshold from the corners),
-//! in its order and words, by the plainest method.
+//! An independent implementation of document 01 with the changes that landed (blocks of 16; the outline's threshold from the corners;
+//! the offset trial that ends sooner), in its order and words, by the plainest method.
 //! A function that returns a `Result` is a public call: its error is document 01's refusal number,
 //! and a refused call leaves every lent buffer as it was.
 

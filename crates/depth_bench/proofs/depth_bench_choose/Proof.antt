@@ -2,8 +2,10 @@
 use mathlib.Core.Path.{sym, ap, _∙_}
 use Rattle.wedgelet.specs.Told.{listTold}
 use Rattle.choice.specs.Answer.{chooseAnswer}
+use Rattle.choice.proofs.AnswerLaws.{told-refused}
+use Rattle.depth_bench.specs.Built.{builtCase}
 use Rattle.depth_bench.specs.Structs.{choiceStruct}
-use Rattle.depth_bench.proofs.Built.{built-count, built-same, refused-built, least-built, accepted-size, never-refused}
+use Rattle.depth_bench.proofs.Built.{built-count, built-same, least-built, accepted-size, never-refused}
 use borrow.Author.Needs.{needs}
 use Rattle.depth_bench.proofs.depth_bench_choose.Statement.{statement}
 use Rattle.depth_bench.proofs.depth_bench_choose.Tie as tie
@@ -13,7 +15,7 @@ returns c =
     let b = c .before .before in
     let a = b .before .before .before .before .before .args in
     let e = c .refused .ensures
-    ∙ ap choiceStruct (refused-built (a .n) (a .border .now) (a .original .now) (a .table .now) (a .reach) (a .texture .now) (b .built-refusal .ensures) (c .before .if1 .taken)) in
+    ∙ ap choiceStruct (told-refused (builtCase (a .n) (a .border .now) (a .original .now) (a .table .now) (a .reach) (a .texture .now)) (b .built-refusal .ensures) (c .before .if1 .taken)) in
     (e, least-built (a .n) (a .border .now) (a .original .now) (a .table .now) (a .reach) (a .texture .now) e)
 
 returns-2 : tie.Need-returns-2

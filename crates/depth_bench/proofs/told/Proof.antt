@@ -16,7 +16,7 @@ returns c =
     let b = g .0 in
     let e = toZ-ofZ w32 (b .off0) (search needs) in
     let f = toZ-ofZ w32 (b .off1) (search needs) in
-    let chosen : ℤ → ℤ → Choice = λ x y. record { refusal = 0; kind = b .kind; entry = b .entry; off0 = x; off1 = y; cost = g .1 .0 } in
+    let chosen : ℤ → ℤ → Choice = λ x y. record { refusal = 0; kind = b .kind; entry = b .entry; off0 = x; off1 = y; cost = g .1 .0; tried = g .1 .1 .0 } in
     ap₂ chosen e f ∙ ap (λ a. choiceStruct (chooseTold a)) (sym (c .before .before .answer .given .1))
 
 returns-2 : tie.Need-returns-2

@@ -17,7 +17,7 @@ returns c =
     let b = told .answer .given .0 .0 in
     let e = toZ-ofZ w32 (b .off0) (search needs) in
     let f = toZ-ofZ w32 (b .off1) (search needs) in
-    let chosen : ℤ → ℤ → FileChosen = λ x y. record { refusal = 0; kind = b .kind; entry = b .entry; off0 = x; off1 = y; cost = told .answer .given .0 .1 .0 } in
+    let chosen : ℤ → ℤ → FileChosen = λ x y. record { refusal = 0; kind = b .kind; entry = b .entry; off0 = x; off1 = y; cost = told .answer .given .0 .1 .0; tried = told .answer .given .0 .1 .1 .0 } in
     ap₂ chosen e f ∙ ap chosenOf (sym (ap chooseTold (told .answer .given .1)) ∙ told .before .before .choose .ensures .0)
 
 returns-2 : tie.Need-returns-2

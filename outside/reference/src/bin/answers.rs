@@ -177,7 +177,9 @@ fn choose_case(f: &mut Fields) -> Option<String> {
         reach,
         texture: &texture,
     };
-    Some(told(choose(&request), |choice| joined(numbers_of(&choice.record)) + &joined([choice.cost])))
+    Some(told(choose(&request), |choice| {
+        joined(numbers_of(&choice.record)) + &joined([choice.cost, choice.tried])
+    }))
 }
 
 fn new(f: &mut Fields) -> Option<String> {

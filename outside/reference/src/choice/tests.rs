@@ -1,5 +1,5 @@
 use super::*;
-use crate::block::{list_words, transposed, transposed_pattern};
+use crate::block::{all_marked, list_words, transposed, transposed_pattern};
 use crate::edges::edge_list;
 use crate::random::Random;
 
@@ -34,6 +34,9 @@ fn offsets_by_absolute_value_then_the_negative() {
     assert_eq!(offsets(0), [0]);
     assert_eq!(offsets(2), [0, -1, 1, -2, 2]);
     assert_eq!(offsets(255).len(), 511);
+    for (k, offset) in offsets(255).into_iter().enumerate() {
+        assert_eq!(place(offset), k as u32 + 1);
+    }
 }
 
 #[test]
@@ -41,13 +44,13 @@ fn ties_go_to_the_first_entry_and_to_offset_zero() {
     let list = edge_words(4);
     let mut request = flat_request(list);
     request.texture = &[9; 16];
-    assert_eq!(both(&request), Choice { record: Record::default(), cost: 0 });
+    assert_eq!(both(&request), Choice { record: Record::default(), cost: 0, tried: 75 * 2 });
     request.original = &[0; 16];
     let record = Record { kind: 0, entry: 0, off0: -1, off1: -1 };
-    assert_eq!(both(&request), Choice { record, cost: 1600 });
+    assert_eq!(both(&request), Choice { record, cost: 1600, tried: 74 * 2 * 5 + 5 + 1 });
     request.original = &[255; 16];
     let record = Record { kind: 0, entry: 0, off0: 1, off1: 1 };
-    assert_eq!(both(&request), Choice { record, cost: 16 * 115 });
+    assert_eq!(both(&request), Choice { record, cost: 16 * 115, tried: 74 * 2 * 5 + 5 + 1 });
 }
 
 #[test]
@@ -58,13 +61,14 @@ fn the_outline_wins_only_with_a_lesser_cost() {
     request.original = &checks;
     request.texture = &checks;
     let record = Record { kind: 1, entry: 0, off0: -1, off1: 1 };
-    assert_eq!(both(&request), Choice { record, cost: 0 });
+    // Of the edges only the four sides of a single corner end sooner.
+    assert_eq!(both(&request), Choice { record, cost: 0, tried: 144 * 5 + 2 * (2 + 3) + (2 + 3) });
     let with_outline = [outline(4, &checks)[0]];
     request.list = &with_outline;
     request.count = 1;
-    assert_eq!(both(&request).record, Record { kind: 0, ..record });
+    assert_eq!(both(&request), Choice { record: Record { kind: 0, ..record }, cost: 0, tried: 2 * (2 + 3) });
     request.count = 0;
-    assert_eq!(both(&request).record, record);
+    assert_eq!(both(&request), Choice { record, cost: 0, tried: 2 + 3 });
 }
 
 #[test]
@@ -102,6 +106,30 @@ fn both_methods_agree_on_pseudo_random_blocks() {
 }
 
 #[test]
+fn both_methods_agree_where_many_sides_cost_nothing() {
+    for seed in 300..360 {
+        let n = [4, 8, 4, 16][seed as usize % 4];
+        let few = |random: &mut Random, length: usize| -> Vec<u8> {
+            random.bytes(length).iter().map(|byte| 126 + byte % 2 * (byte % 3)).collect()
+        };
+        let mut random = Random(seed);
+        let (border, texture) = (random.bytes(4 * n), few(&mut random, n * n));
+        let original = if seed % 3 == 0 { vec![127; n * n] } else { few(&mut random, n * n) };
+        let words = [list_words(n, &[[0; 4], all_marked(n)]), edge_words(n).to_vec()].concat();
+        both(&Request {
+            n,
+            list: &words,
+            count: if n == 4 { 76 } else { 12 },
+            border: &border,
+            original: &original,
+            table: &[[0, 100, 126, 127, 255], [0, 126, 127, 128, 129]][seed as usize / 2 % 2],
+            reach: [0, 1, 4, 7][seed as usize / 4 % 4],
+            texture: if seed % 5 < 3 { &texture } else { &[] },
+        });
+    }
+}
+
+#[test]
 fn both_methods_agree_on_the_greatest_reach() {
     let mut random = Random(77);
     let (border, original) = (random.bytes(16), random.bytes(16));
@@ -114,6 +142,143 @@ fn both_methods_agree_on_the_greatest_reach() {
             reach: 255,
             ..flat_request(&list)
         });
+    }
+}
+
+/// The block of 4 by 4 with one value where the word has no mark, and another where it has.
+fn block_of(word: u64, unmarked: u8, marked: u8) -> [u8; 16] {
+    std::array::from_fn(|i| if word >> i & 1 == 1 { marked } else { unmarked })
+}
+
+/// How many offsets are tried for a block of 4 by 4 with the list and a flat border, by both methods.
+fn tried(list: &[u64], border: u8, table: &[u8], original: &[u8; 16], reach: u32) -> u32 {
+    both(&Request { border: &[border; 16], original, table, reach, ..flat_request(list) }).tried
+}
+
+#[test]
+fn a_trial_ends_at_the_first_offset_that_costs_nothing() {
+    let full = spread_table(256);
+    for (sample, count) in [(128, 1), (127, 2), (129, 3), (126, 4), (130, 5), (123, 10), (133, 11)] {
+        assert_eq!(tried(&[0xFFF0], 128, &full, &[sample; 16], 5), 2 * count);
+    }
+    for sample in [0, 122, 134, 255] {
+        assert_eq!(tried(&[0xFFF0], 128, &full, &[sample; 16], 5), 2 * 11);
+    }
+}
+
+#[test]
+fn each_side_has_its_own_trial() {
+    let full = spread_table(256);
+    for (row, rest, count) in [(128, 131, 1 + 7), (131, 128, 7 + 1), (126, 133, 4 + 7), (0, 127, 7 + 2)] {
+        assert_eq!(tried(&[0xFFF0], 128, &full, &block_of(0xFFF0, row, rest), 3), count);
+        assert_eq!(tried(&[0x000F], 128, &full, &block_of(0xFFF0, row, rest), 3), count);
+    }
+}
+
+#[test]
+fn a_side_without_samples_takes_one_offset() {
+    for n in [4, 8, 16] {
+        let words = list_words(n, &[[0; 4], all_marked(n)]);
+        let (border, original) = (vec![128; 4 * n], vec![9; n * n]);
+        for reach in [0, 1, 17, 255] {
+            let request =
+                Request { n, list: &words, border: &border, original: &original, reach, ..flat_request(&[]) };
+            for count in 1..=2 {
+                let choice = choose(&Request { count, ..request }).unwrap();
+                assert_eq!(choice.tried, count as u32 * (2 * reach + 1 + 1));
+                assert_eq!(choice.tried, tried_by_place(&Request { count, ..request }));
+            }
+        }
+    }
+}
+
+#[test]
+fn the_ends_of_the_reach() {
+    let full = spread_table(256);
+    assert_eq!(tried(&[0xFFF0], 128, &full, &[128; 16], 0), 2);
+    assert_eq!(tried(&[0xFFF0], 128, &full, &[0; 16], 0), 2);
+    assert_eq!(tried(&[0xFFF0], 128, &full, &[128; 16], 255), 2);
+    assert_eq!(tried(&[0xFFF0], 255, &full, &[0; 16], 255), 2 * 510);
+    assert_eq!(tried(&[0xFFF0], 0, &full, &[255; 16], 255), 2 * 511);
+    assert_eq!(tried(&[0xFFF0], 255, &full, &[0; 16], 254), 2 * 509);
+    assert_eq!(tried(&[0xFFF0], 0, &full, &[255; 16], 254), 2 * 509);
+}
+
+#[test]
+fn offsets_that_are_held_to_one_index_count_singly() {
+    for reach in [0, 1, 9, 255] {
+        assert_eq!(tried(&[0xFFF0], 3, &[128], &[128; 16], reach), 2);
+        assert_eq!(tried(&[0xFFF0], 3, &[128], &[127; 16], reach), 2 * (2 * reach + 1));
+    }
+    assert_eq!(tried(&[0xFFF0], 255, &[100, 128, 140], &[100; 16], 255), 2 * 4);
+    assert_eq!(tried(&[0xFFF0], 0, &[100, 128, 140], &[140; 16], 255), 2 * 5);
+    assert_eq!(tried(&[0xFFF0], 0, &[100, 128, 140], &[139; 16], 255), 2 * 511);
+}
+
+#[test]
+fn entries_that_stand_again_count_again() {
+    let full = spread_table(256);
+    let original = block_of(0xFFF0, 127, 130);
+    for (list, count) in [(&[0xFFF0][..], 7), (&[0xFFF0; 2], 14), (&[0xFFF0; 9], 63)] {
+        assert_eq!(tried(list, 128, &full, &original, 5), count);
+    }
+    let mixed = [0xFFF0, 0, 0xFFF0, 0xFFFF, 0, 0xFFF0];
+    assert_eq!(tried(&mixed, 128, &full, &original, 5), 3 * 7 + 3 * (11 + 1));
+}
+
+#[test]
+fn a_pattern_of_cost_0_does_not_stop_the_later_ones() {
+    let original = block_of(0xFFF0, 100, 140);
+    let request = Request { original: &original, ..flat_request(&[0xFFF0, 0xEEEE, 0x000F]) };
+    let record = Record { kind: 0, entry: 0, off0: -1, off1: 1 };
+    assert_eq!(both(&Request { count: 1, ..request }), Choice { record, cost: 0, tried: 2 + 3 });
+    assert_eq!(both(&Request { count: 2, ..request }), Choice { record, cost: 0, tried: 2 + 3 + 5 + 5 });
+    assert_eq!(both(&request), Choice { record, cost: 0, tried: 2 + 3 + 5 + 5 + 3 + 2 });
+    let textured = Request { texture: &original, ..request };
+    assert_eq!(both(&textured), Choice { record, cost: 0, tried: 2 + 3 + 5 + 5 + 3 + 2 + 2 + 3 });
+}
+
+#[test]
+fn a_least_cost_that_is_not_0_does_not_end_the_trial() {
+    let full = spread_table(256);
+    assert_eq!(tried(&[0xFFF0], 128, &full, &block_of(0xAAAA, 127, 128), 4), 2 * 9);
+    assert_eq!(tried(&[0xFFF0], 128, &full, &block_of(0x8000, 128, 129), 255), 1 + 511);
+}
+
+#[test]
+fn the_outline_is_tried_only_where_texture_is_lent() {
+    let (texture, original) = (block_of(0x8020, 0, 1), block_of(0x8020, 128, 140));
+    let request = Request { original: &original, ..flat_request(&[0xFFF0, 0x8000]) };
+    assert_eq!(both(&request).tried, (1 + 5) + (5 + 3));
+    assert_eq!(both(&Request { texture: &texture, ..request }).tried, (1 + 5) + (5 + 3) + (1 + 3));
+    assert_eq!(both(&Request { texture: &[7; 16], ..request }).tried, (1 + 5) + (5 + 3) + (5 + 1));
+    assert_eq!(both(&Request { texture: &texture, count: 0, ..request }).tried, 1 + 3);
+}
+
+#[test]
+fn the_count_is_the_sum_over_the_patterns_alone() {
+    for seed in 400..412 {
+        let n = [4, 8, 16][seed as usize % 3];
+        let mut random = Random(seed);
+        let (border, texture) = (random.bytes(4 * n), random.bytes(n * n));
+        let original: Vec<u8> = random.bytes(n * n).iter().map(|byte| byte / 250 * 3 + 90).collect();
+        let (words, full) = (edge_words(n), spread_table(256));
+        let request = Request {
+            n,
+            list: words,
+            count: words.len() / words_of(n),
+            border: &border,
+            original: &original,
+            table: &full,
+            reach: 255,
+            texture: &texture,
+        };
+        let alone =
+            |list: &[u64]| choose(&Request { list, count: 1, texture: &[], ..request }).unwrap().tried;
+        let entries: u32 = words.chunks(words_of(n)).map(alone).sum();
+        let outline = choose(&Request { count: 0, ..request }).unwrap().tried;
+        assert_eq!(choose(&request).unwrap().tried, entries + outline);
+        assert_eq!(choose(&Request { texture: &[], ..request }).unwrap().tried, entries);
     }
 }
 
@@ -204,7 +369,7 @@ fn cost_of(request: &Request, pattern: &Pattern, off0: i32, off1: i32) -> u32 {
 }
 
 /// The diagonal law for one case: partners exist and are single, their predictions are transposed,
-/// their costs equal, and so are the two chosen costs.
+/// their costs equal, and so are the two chosen costs. With equal costs as many offsets are tried.
 fn diagonal_law(request: &Request) {
     let n = request.n;
     let turn = |samples: &[u8]| {
@@ -232,7 +397,8 @@ fn diagonal_law(request: &Request) {
             assert_eq!(cost_of(&turned, &partner, off0, off1), cost);
         }
     }
-    assert_eq!(choose(&turned).unwrap().cost, choose(request).unwrap().cost);
+    let (here, across) = (choose(request).unwrap(), choose(&turned).unwrap());
+    assert_eq!((across.cost, across.tried), (here.cost, here.tried));
 }
 
 #[test]

@@ -1,5 +1,5 @@
 -- `choose` meets its contract: the refusal, or what was picked; and an answer that is the definition's is least.
-use mathlib.Core.Path.{_≡_, refl, sym, _∙_}
+use mathlib.Core.Path.{_≡_, sym, _∙_}
 use Rattle.pattern.specs.Words.{patternsOf}
 use Rattle.choice.specs.Case.{Case, caseOf}
 use Rattle.choice.specs.Refusal.{chooseRefusal}
@@ -27,7 +27,7 @@ best-pattern-requires c κs = rw (c .wide .ensures) (sym (c .before .before .cho
 -- what was picked, and that the case is not refused
 picked : (c : tie.After-best-pattern) →
     let p = c .best-pattern .result in
-    PickedOf (given (c .before .before .before .before .before .before .before .before .before)) (p .number) (p .trial0) (p .trial1) (p .cost)
+    PickedOf (given (c .before .before .before .before .before .before .before .before .before)) (p .number) (p .trial0) (p .trial1) (p .cost) (p .tried)
 picked c = rw (c .before .wide .ensures) at (c .best-pattern .ensures)
 
 passes : (c : tie.After-best-pattern) → chooseRefusal (given (c .before .before .before .before .before .before .before .before .before)) ≡ 0
@@ -42,7 +42,7 @@ record-of-requires c κs =
 returns-2 : tie.Need-returns-2
 returns-2 c =
     let C = given (c .before .before .before .before .before .before .before .before .before .before) in
-    let e = told-given C (passes (c .before)) (picked (c .before)) (c .record-of .ensures) refl in
+    let e = told-given C (passes (c .before)) (picked (c .before)) (c .record-of .ensures) in
     (e, told-least C e)
 
 pub choose-spec : {M : Type 1} → statement M

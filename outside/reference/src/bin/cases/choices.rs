@@ -1,7 +1,7 @@
 //! Cases of choices, and those of the same blocks transposed.
 
 use crate::slices::{built, given, listed, random, Slice, SIZES};
-use reference::block::{all_marked, list_words, transposed, Pattern};
+use reference::block::{all_marked, list_words, pattern_where, transposed, Pattern};
 use reference::edges::edge_list;
 use reference::random::Random;
 use reference::table::index_of;
@@ -9,7 +9,7 @@ use reference::table::index_of;
 /// The cases of the choices: fill of the original, fill of the border, table, reach, fill of the
 /// texture, list, fault (0 none, 1 the border a byte short, 2 the original a byte short, 3 the texture a
 /// byte short, 4 n is N + 1).
-const CHOICES: [[u32; 7]; 60] = [
+const CHOICES: [[u32; 7]; 78] = [
     // Flat blocks: ties between edges, offsets of both signs, ends of the reach and of the table.
     [0, 0, 3, 0, 15, 0, 0],
     [0, 0, 3, 5, 15, 0, 0],
@@ -77,6 +77,27 @@ const CHOICES: [[u32; 7]; 60] = [
     [3, 3, 3, 5, 3, 0, 2],
     [3, 3, 3, 5, 3, 0, 3],
     [3, 3, 3, 256, 3, 6, 4],
+    // Trials that end at offset 0, at a later one, at the last two of the reach, and not at all.
+    [5, 13, 3, 255, 15, 9, 0],
+    [5, 14, 3, 255, 5, 9, 0],
+    [6, 13, 3, 80, 15, 8, 0],
+    [6, 13, 3, 79, 15, 8, 0],
+    [1, 2, 3, 255, 15, 8, 0],
+    [2, 1, 3, 255, 8, 8, 0],
+    [2, 1, 3, 254, 15, 8, 0],
+    [9, 0, 3, 255, 9, 8, 0],
+    [3, 3, 2, 0, 3, 9, 0],
+    // Trials that go on past the table's ends, in tables of three values and of one.
+    [6, 13, 2, 255, 6, 8, 0],
+    [0, 3, 2, 255, 0, 9, 0],
+    [0, 3, 0, 255, 8, 9, 0],
+    [3, 3, 1, 255, 15, 8, 0],
+    // Sides without samples.
+    [10, 0, 3, 0, 15, 3, 0],
+    [10, 0, 3, 255, 0, 3, 0],
+    [11, 3, 3, 255, 15, 3, 0],
+    [0, 3, 0, 255, 15, 3, 0],
+    [1, 3, 1, 255, 8, 3, 0],
 ];
 
 /// Sample i of a fill. The same numbers serve originals, textures and borders; x = i % n, y = i / n.
@@ -145,6 +166,8 @@ fn numbered_patterns(numbers: &[u64]) -> Vec<Pattern> {
 fn numbered_list(list: u32, n: usize) -> (String, usize) {
     let all = all_marked(n);
     let all_but_first = [all[0] - 1, all[1], all[2], all[3]];
+    let (upper, lower) = (pattern_where(n, |_, y| y < n / 2), pattern_where(n, |_, y| y >= n / 2));
+    let right = pattern_where(n, |x, _| x >= n / 2);
     let (patterns, count) = match list {
         0 => return (built(n), edge_list(n).len()),
         1 => return (built(n), 0),
@@ -154,7 +177,9 @@ fn numbered_list(list: u32, n: usize) -> (String, usize) {
         5 => (numbered_patterns(&[0xFFF0, 0x10000]), 1),
         6 => (numbered_patterns(&[0xFFF0, 0xEEEE]), 3),
         7 => (vec![[1, 0, 0, 0], all_but_first, [0x8008, 0, 0, 0]], 3),
-        _ => unreachable!("lists are 0 to 7"),
+        8 => (vec![upper, upper, lower, upper], 4),
+        9 => (vec![right, [0; 4], right, all, right], 5),
+        _ => unreachable!("lists are 0 to 9"),
     };
     let words = list_words(n, &patterns);
     (listed(words.len(), &words), count)
