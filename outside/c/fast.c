@@ -90,9 +90,8 @@ INLINE trial better(size_t words, const prepared *p, const uint64_t *part, uint3
     return best.cost < cost ? best : (trial){ near_number, cost };
 }
 
-INLINE trial best_of_part(size_t words, const prepared *p, const uint64_t *part, const uint8_t *table, size_t len, size_t at,
+INLINE trial best_of_part(size_t words, const prepared *p, const uint64_t *part, uint32_t size, const uint8_t *table, size_t len, size_t at,
     size_t reach) {
-    uint32_t size = ones(words, part);
     size_t last = reach < len - 1 - at ? at + reach : len - 1, end = reach < at ? at - reach : 0;
     if (at < last && 2 * count_below(words, p, part, table[at] + 1u) < size) {
         size_t low = turn(words, p, part, size, table, 1, at, last);
@@ -126,8 +125,9 @@ INLINE depth_bench_choice choose(size_t words, size_t n, const uint64_t *list, s
         const uint64_t *pattern = k < count ? list + words * k : contour;
         size_t origin = mark(pattern, 0), edges = 2 * (origin ^ mark(pattern, n - 1)) + (origin ^ mark(pattern, (n - 1) * n));
         for (size_t w = 0; w < words; w++) rest[w] = p.below[256][w] - pattern[w];
-        trial unmarked = best_of_part(words, &p, rest, table, table_len, p.index[4 * origin + edges], reach);
-        trial marked = best_of_part(words, &p, pattern, table, table_len, p.index[4 * !origin + edges], reach);
+        uint32_t size = ones(words, pattern), others = (uint32_t)(n * n) - size;
+        trial unmarked = best_of_part(words, &p, rest, others, table, table_len, p.index[4 * origin + edges], reach);
+        trial marked = best_of_part(words, &p, pattern, size, table, table_len, p.index[4 * !origin + edges], reach);
         best.tried += tried(unmarked, reach) + tried(marked, reach);
         if (unmarked.cost + marked.cost < best.cost)
             best = (depth_bench_choice){ 0, k >= count, k < count ? (uint32_t)k : 0, offset_of(unmarked.number), offset_of(marked.number),

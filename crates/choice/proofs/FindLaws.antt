@@ -1,8 +1,8 @@
 -- The best offset of a part: its cost is convex in the value and the table rises, so the level next to the turn is the first least in the
 -- order of offsets.
-use Prim.Native.Nat.{ℕ, suc, _+_, _-_, _*_, _^_, _≤_, _<_, min}
-use mathlib.Core.Path.{_≡_, refl, ap, subst, _∙_}
-use mathlib.Core.Bool.{Bool, true, false, cond, not}
+use Prim.Native.Nat.{ℕ, zero, suc, _+_, _-_, _*_, _^_, _≤_, _<_, min}
+use mathlib.Core.Path.{_≡_, refl, sym, ap, subst, _∙_}
+use mathlib.Core.Bool.{Bool, true, false, cond, not, _&&_}
 use mathlib.Core.List.{List}
 use mathlib.Core.Logic.{_⊎_, inl, inr, ⊎-elim}
 use native.Mathlib.Nat.{eq-or-lt-of-le}
@@ -13,13 +13,14 @@ use lib.Count.{ones}
 use lib.ListN.{length, getD}
 use lib.Dec.{ltb}
 use borrow.Author.Tests.{lt-ltb}
-use Rattle.arith.specs.Bits.{testBit}
+use Rattle.arith.specs.Bits.{bit, testBit}
 use Rattle.arith.specs.Distance.{dist}
 use Rattle.arith.proofs.BitLaws.{bits-lt, bits-at}
-use Rattle.arith.proofs.Sums.{sum-ext}
+use Rattle.arith.specs.Sum.{sumTo}
+use Rattle.arith.proofs.Sums.{sum-ext, sum-add}
 use Rattle.depth_table.proofs.TableLaws.{table-bytes, table-rises}
 use Rattle.choice.specs.Cost.{sideCost}
-use Rattle.choice.specs.Tally.{sideSize, sideBelow}
+use Rattle.choice.specs.Tally.{sideCount, sideSize, sideBelow}
 use Rattle.choice.specs.Layers.{layerAt, belowWord, Parted}
 use Rattle.choice.specs.Trial.{Better, TrialOf}
 use Rattle.choice.specs.Turn.{Convex, BestLevel, twice, Turn, UpTried, DownTried, offsetCost, Findable}
@@ -62,24 +63,40 @@ marked-or-not : (b : Bool) → cond b (not true) true ≡ not b
 marked-or-not true = refl
 marked-or-not false = refl
 
+one-of : (b : Bool) → bit (not b && true) + bit (b && true) ≡ 1
+one-of true = refl
+one-of false = refl
+
+sum-ones : (c : ℕ) → sumTo (λ _. 1) c ≡ c
+unfolding sumTo
+sum-ones zero = refl
+sum-ones (suc c) = omega (arith, sum-ones c)
+
 module _ (c : ℕ) (samples : List ℕ) (w : ℕ) (small : w < 2 ^ c) where
   pub part-lt : (m : Bool) → cond m w (bitXor (belowWord c samples 256) w) < 2 ^ c
   part-lt true = small
   part-lt false = xor-lt c (belowWord c samples 256) w (bits-lt _ c) small
 
-  pub part-cost :
-      ((k : ℕ) → getD samples k 0 < 256) → (m : Bool) (v : ℕ)
-      → sideCost c samples (cond m w (bitXor (belowWord c samples 256) w)) true v ≡ sideCost c samples w m v
-  unfolding sideCost
-  part-cost bytes true v = refl
-  part-cost bytes false v =
-      sum-ext _ _ c
-      (λ k l.
-      ap (λ (b : Bool). cond b (dist v (getD samples k 0)) 0)
-      (xor-bit (belowWord c samples 256) w k
-      ∙ ap (λ (b : Bool). cond (testBit w k) (not b) b)
-      (bits-at (λ i. ltb (getD samples i 0) 256) c k l ∙ lt-ltb (getD samples k 0) 256 (bytes k))
-      ∙ marked-or-not (testBit w k)))
+  module _ (bytes : (k : ℕ) → getD samples k 0 < 256) where
+    -- the others of the block are those that it does not mark
+    part-bit : (k : ℕ) → k < c → testBit (bitXor (belowWord c samples 256) w) k ≡ not (testBit w k)
+    part-bit k l =
+        xor-bit (belowWord c samples 256) w k
+        ∙ ap (λ (b : Bool). cond (testBit w k) (not b) b)
+        (bits-at (λ i. ltb (getD samples i 0) 256) c k l ∙ lt-ltb (getD samples k 0) 256 (bytes k))
+        ∙ marked-or-not (testBit w k)
+
+    pub part-cost :
+        (m : Bool) (v : ℕ) → sideCost c samples (cond m w (bitXor (belowWord c samples 256) w)) true v ≡ sideCost c samples w m v
+    unfolding sideCost
+    part-cost true v = refl
+    part-cost false v = sum-ext _ _ c (λ k l. ap (λ (b : Bool). cond b (dist v (getD samples k 0)) 0) (part-bit k l))
+
+    -- both parts have as many samples as the block
+    pub sizes-whole : sideSize c samples (bitXor (belowWord c samples 256) w) true + sideSize c samples w true ≡ c
+    unfolding sideCount
+    sizes-whole =
+        sym (sum-add _ _ c) ∙ sum-ext _ (λ _. 1) c (λ k l. rw (part-bit k l) (one-of (testBit w k))) ∙ sum-ones c
 
 -- the last index in reach
 pub last-in : (count i R : ℕ) → i < count → i + min R (count - 1 - i) ≡ min (i + R) (count - 1)

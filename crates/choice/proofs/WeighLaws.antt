@@ -1,11 +1,12 @@
 -- What follows for a pattern that is weighed: the index of each partition's depth, and its best offset from that of its
 -- samples as a pattern.
-use Prim.Native.Nat.{ℕ, _*_, _^_, _<_}
+use Prim.Native.Nat.{ℕ, _-_, _*_, _^_, _≤_, _<_}
 use mathlib.Core.Path.{_≡_, sym, ap, _∙_}
-use mathlib.Core.Bool.{Bool, true, cond}
+use mathlib.Core.Bool.{Bool, true, false, cond}
 use mathlib.Core.List.{List}
 use native.Mathlib.Omega.{arith}
 use lib.Bits.{bitXor}
+use lib.Count.{ones}
 use lib.ListN.{length, getD}
 use Rattle.arith.specs.Distance.{clamped}
 use Rattle.depth_table.specs.Table.{indexOf}
@@ -16,10 +17,13 @@ use Rattle.prediction.proofs.SideCallLaws.{sides-accepted}
 use Rattle.depth_table.specs.Offset.{levelOf}
 use Rattle.choice.specs.Offset.{offset}
 use Rattle.choice.specs.Cost.{sideCost}
-use Rattle.choice.specs.Layers.{layerAt, belowWord}
+use Rattle.choice.specs.Layers.{layerAt, belowWord, Parted}
+use Rattle.choice.specs.Tally.{sideSize}
 use Rattle.choice.specs.Trial.{TrialOf}
 use Rattle.choice.specs.Turn.{offsetCost, Findable}
-use Rattle.choice.proofs.FindLaws.{part-lt, part-cost}
+use Rattle.choice.proofs.FindLaws.{part-lt, part-cost, sizes-whole}
+use Rattle.choice.proofs.LayerLaws.{size-count}
+use Rattle.choice.proofs.TallyLaws.{count-le}
 use Rattle.choice.proofs.TrialLaws.{trial-of-same}
 use Rattle.choice.specs.Cases.{sideCase, depthIn}
 use Rattle.choice.specs.Search.{trialCost}
@@ -29,8 +33,28 @@ use Rattle.choice.proofs.CaseLaws.{depth-case}
 module _ (n w : ℕ) (s o t : List ℕ) (R : ℕ) (h : Weighable n w s o t R) where
   module _ (below planes indices : List ℕ) (q : Prepared n s o t below planes indices) (bytes : (k : ℕ) → getD o k 0 < 256) where
     -- the word marks samples of the block only
-    word-small : w < 2 ^ length o
+    pub word-small : w < 2 ^ length o
     word-small = rw (h .square) (sides-accepted n w s (h .sides) .inside)
+
+    -- the part of its marks, and the part of all others
+    module _ {size : ℕ} (e : size ≡ ones w) where
+      size-is : size ≡ sideSize (length o) o w true
+      size-is = e ∙ size-count (length o) o w word-small
+
+      pub size-le : size ≤ length o
+      size-le = omega (arith, size-is, count-le o w true (length o) (λ x. true))
+
+      pub parted-marked : Parted o below planes w size
+      parted-marked = record { layers = q .layers; small = word-small; its-size = size-is }
+
+      pub parted-others : {part : ℕ} → part ≡ bitXor (layerAt below 256) w → Parted o below planes part (length o - size)
+      parted-others ep =
+          rw (ep ∙ ap (λ (x : ℕ). bitXor x w) (q .layers .below-at 256 (omega arith)))
+          (record {
+            layers = q .layers;
+            small = part-lt (length o) o w word-small false;
+            its-size = omega (arith, size-is, sizes-whole (length o) o w word-small bytes);
+          })
 
     module _ (m : Bool) {j part : ℕ} (ej : j ≡ sideCase n w m) (hj : j < 8) (ep : part ≡ cond m w (bitXor (layerAt below 256) w)) where
       abbrev i : ℕ
@@ -41,9 +65,6 @@ module _ (n w : ℕ) (s o t : List ℕ) (R : ℕ) (h : Weighable n w s o t R) wh
 
       part-is : part ≡ cond m w (bitXor (belowWord (length o) o 256) w)
       part-is = ep ∙ ap (λ (x : ℕ). cond m w (bitXor x w)) (q .layers .below-at 256 (omega arith))
-
-      pub part-small : part < 2 ^ length o
-      part-small = rw part-is (part-lt (length o) o w word-small m)
 
       pub findable : Findable t i R
       findable = record { sound = h .sound; inside = rw index-is (index-below t (sideDepth n w s m) (table-counts t (h .sound) .0)); near = h .near }

@@ -14,7 +14,6 @@ use crate::layers::wide;
 use crate::parts::Part;
 use crate::parts::cost_at;
 use crate::parts::count_below;
-use crate::parts::size_of;
 use depth_table::DepthIndex;
 use pattern::Pattern;
 use pattern::lesser;
@@ -162,29 +161,26 @@ fn best_down(
     )
 }
 
-// The first offset of least cost of a part, where its depth has the given index, and its cost.
+// The first offset of least cost of a part of so many samples, where its depth has the given index, and its cost.
 pub(crate) fn best_of_part(
     samples: &[u8],
     below: &[u64; LAYER_WORDS],
     planes: &[u64; PLANE_WORDS],
     marks: Pattern,
+    size: u32,
     table: &[u8],
     index: DepthIndex,
     reach: usize,
 ) -> Trial
-    requires { ⌜ Layered (now samples) (now below) (now planes)
-        × (patternNumber marks < 2 ^ length (now samples))
-        × Findable (now table) (index .0) reach ⌝ }
+    requires { ⌜ Parted (now samples) (now below) (now planes) (patternNumber marks) size × Findable (now table) (index .0) reach ⌝ }
     ensures { λ r. ⌜ TrialOf (offsetCost (now (samples .entry)) (patternNumber marks) true (now (table .entry)) (index .0)) (2 * reach)
         (r .number) (r .cost) × (r .cost ≤ 65280) ⌝ }
 {
     let at = index.0;
-    let long = 64 < samples.len();
-    let size = size_of(marks, long);
     let part = Part {
         marks,
         size,
-        wide: long,
+        wide: 64 < samples.len(),
     };
     let last = at + lesser(reach, table.len() - 1 - at);
     let end = at - lesser(reach, at);

@@ -136,12 +136,9 @@ pub(crate) fn cost_at(
     sum + 2 * (value * count) - (255 * count + value * part.size)
 }
 
-// The samples of a partition: the pattern's own, or all others of the block.
-pub(crate) fn side_marks(below: &[u64; LAYER_WORDS], p: Pattern, side: bool) -> Pattern
-    ensures { λ r. ⌜ patternNumber r ≡ cond side (patternNumber p) (bitXor (layerAt (now (below .entry)) 256) (patternNumber p)) ⌝ }
+// The samples of the block that a pattern does not mark.
+pub(crate) fn others(below: &[u64; LAYER_WORDS], p: Pattern) -> Pattern
+    ensures { λ r. ⌜ patternNumber r ≡ bitXor (layerAt (now (below .entry)) 256) (patternNumber p) ⌝ }
 {
-    if side {
-        return p;
-    }
     inverted(below_at(below, 256), p)
 }

@@ -24,7 +24,8 @@ use crate::layers::below_layers;
 use crate::layers::bit_planes;
 use crate::offsets::Trial;
 use crate::offsets::best_of_part;
-use crate::parts::side_marks;
+use crate::parts::others;
+use crate::parts::size_of;
 use depth_table::DepthIndex;
 use depth_table::DepthValue;
 use depth_table::Indexed;
@@ -52,33 +53,6 @@ fn case_indices(n: usize, border: &[u8], table: &[u8]) -> [usize; 8]
         indices[k] = index_in(table, case_depth(n, border, k));
     }
     indices
-}
-
-// The first best offset of a partition of a pattern, whose depth is of the case k, and what the partition costs there.
-fn best_offset(
-    n: usize,
-    p: Pattern,
-    side: bool,
-    k: usize,
-    border: &[u8],
-    original: &[u8],
-    table: &[u8],
-    reach: usize,
-    below: &[u64; LAYER_WORDS],
-    planes: &[u64; PLANE_WORDS],
-    indices: &[usize; 8],
-) -> Trial
-    requires { ⌜ Weighable n (patternNumber p) (now border) (now original) (now table) reach
-        × Prepared n (now border) (now original) (now table) (now below) (now planes) (now indices)
-        × (k ≡ sideCase n (patternNumber p) side)
-        × (k < 8) ⌝ }
-    ensures { λ r. ⌜ TrialOf
-        (trialCost (blockCase n (now (border .entry)) (now (original .entry)) (now (table .entry)) reach) (patternNumber p) side)
-        (2 * reach) (r .number) (r .cost) × (r .cost ≤ 65280) ⌝ }
-{
-    let part = side_marks(below, p, side);
-    let at = indices[k];
-    best_of_part(original, below, planes, part, table, DepthIndex(at), reach)
 }
 
 // How many offsets are tried for a partition, by the first one of least cost: up to it where it costs 0, else all in reach.
@@ -119,31 +93,30 @@ fn best_sides(
         × (r .tried ≡ triedAt (blockCase n (now (border .entry)) (now (original .entry)) (now (table .entry)) reach) (patternNumber p)) ⌝ }
 {
     let k = side_case(n, p, false);
-    let unmarked = best_offset(
-        n,
-        p,
-        false,
-        k,
-        border,
+    let at0 = indices[k];
+    let at1 = indices[(k + 4) % 8];
+    let size1 = size_of(p, 64 < original.len());
+    let size0 = original.len() as u32 - size1;
+    let rest = others(below, p);
+    let unmarked = best_of_part(
         original,
-        table,
-        reach,
         below,
         planes,
-        indices,
+        rest,
+        size0,
+        table,
+        DepthIndex(at0),
+        reach,
     );
-    let marked = best_offset(
-        n,
-        p,
-        true,
-        (k + 4) % 8,
-        border,
+    let marked = best_of_part(
         original,
-        table,
-        reach,
         below,
         planes,
-        indices,
+        p,
+        size1,
+        table,
+        DepthIndex(at1),
+        reach,
     );
     let cost = unmarked.cost + marked.cost;
     let tried0 = tried_by(unmarked, reach);

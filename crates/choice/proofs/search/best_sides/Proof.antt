@@ -1,12 +1,26 @@
 -- `best_sides` meets its contract: what it costs, and how many offsets are tried, is the sum over its partitions.
+use Prim.Native.Nat.{ℕ, _*_, _<_}
+use mathlib.Core.Bool.{true, false}
+use mathlib.Core.Path.{refl}
 use native.Mathlib.Omega.{arith}
 use borrow.Author.Needs.{needs}
+use lib.ListN.{getD}
+use Rattle.pattern.specs.Words.{patternNumber}
 use Rattle.prediction.proofs.SideCallLaws.{sides-bounds}
+use Rattle.choice.specs.Picked.{blockCase}
+use Rattle.choice.specs.Search.{trialCost}
+use Rattle.choice.specs.Trial.{TrialOf}
 use Rattle.choice.proofs.CaseLaws.{other-case}
+use Rattle.choice.proofs.LayerLaws.{fits-block}
+use Rattle.choice.proofs.WeighLaws.{word-small, size-le, parted-marked, parted-others, findable, trial-weighed}
 use Rattle.choice.proofs.TrialLaws.{trial-low}
 use Rattle.choice.proofs.SearchLaws.{both-sides, both-tried}
 use Rattle.choice.proofs.search.best_sides.Statement.{statement}
 use Rattle.choice.proofs.search.best_sides.Tie as tie
+
+-- the samples are bytes
+bytes : (z : tie.After-side-case) (i : ℕ) → getD (z .before .before .before .before .args .original .now) i 0 < 256
+bytes z i = z .before .before .shared-slice-known2 .given i .fits
 
 side-case-requires : tie.Need-side-case-requires
 side-case-requires c κs =
@@ -14,35 +28,83 @@ side-case-requires c κs =
     let b = sides-bounds _ _ _ (s .pre .0 .sides) in
     (b .0, b .1)
 
-best-offset-requires : tie.Need-best-offset-requires
-best-offset-requires c κs = let s : tie.Start = search needs in (s .pre .0, s .pre .1, c .side-case .ensures .0, c .side-case .ensures .1)
+size-of-requires : tie.Need-size-of-requires
+size-of-requires c κs =
+    let z = c .before .before in
+    let s = z .before .before .before .before in
+    fits-block _ _ (s .pre .1 .layers .few) (word-small _ _ _ _ _ _ (s .pre .0) _ _ _ (s .pre .1) (bytes z))
 
-best-offset-requires-2 : tie.Need-best-offset-requires-2
-best-offset-requires-2 c κs =
-    let s : tie.Start = search needs in
-    let k : tie.After-side-case = search needs in
-    (s .pre .0, s .pre .1, other-case _ _ (k .side-case .ensures .0), omega arith)
+cast-size0 : tie.Need-cast-size0
+cast-size0 c = let s = c .before .before .before .before .before .before .before in record { fits = omega (arith, s .pre .1 .layers .few) }
+
+sub-size0 : tie.Need-sub-size0
+sub-size0 c =
+    let z = c .before .before .before in
+    let s = z .before .before .before .before in
+    size-le _ _ _ _ _ _ (s .pre .0) _ _ _ (s .pre .1) (bytes z) (c .size-of .ensures .0)
+
+best-of-part-requires : tie.Need-best-of-part-requires
+best-of-part-requires c κs =
+    let z = c .before .before .before .before in
+    let s = z .before .before .before .before in
+    let k = z .side-case .ensures in (
+      parted-others _ _ _ _ _ _ (s .pre .0) _ _ _ (s .pre .1) (bytes z) (c .before .size-of .ensures .0) (c .others .ensures),
+      findable _ _ _ _ _ _ (s .pre .0) _ _ _ (s .pre .1) (bytes z) false (k .0) (k .1) (c .others .ensures),
+    )
+
+best-of-part-requires-2 : tie.Need-best-of-part-requires-2
+best-of-part-requires-2 c κs =
+    let z = c .before .before .before .before .before in
+    let s = z .before .before .before .before in
+    let k = z .side-case .ensures in (
+      parted-marked _ _ _ _ _ _ (s .pre .0) _ _ _ (s .pre .1) (bytes z) (c .before .before .size-of .ensures .0),
+      findable _ _ _ _ _ _ (s .pre .0) _ _ _ (s .pre .1) (bytes z) true (other-case _ _ (k .0)) (omega arith) refl,
+    )
+
+-- the best offset of each partition
+unmarked :
+    (c : tie.After-best-of-part)
+    → let a = c .before .before .before .before .before .before .before .before .before .args in
+    let t = c .best-of-part .result in
+    TrialOf (trialCost (blockCase (a .n) (a .border .now) (a .original .now) (a .table .now) (a .reach)) (patternNumber (a .p)) false) (2 * a .reach) (t .number) (t .cost)
+unmarked c =
+    let z = c .before .before .before .before .before in
+    let s = z .before .before .before .before in
+    let k = z .side-case .ensures in
+    trial-weighed _ _ _ _ _ _ (s .pre .0) _ _ _ (s .pre .1) (bytes z) false (k .0) (k .1) (c .before .others .ensures) (c .best-of-part .ensures .0)
+
+marked :
+    (c : tie.After-best-of-part2)
+    → let a = c .before .before .before .before .before .before .before .before .before .before .args in
+    let t = c .best-of-part2 .result in
+    TrialOf (trialCost (blockCase (a .n) (a .border .now) (a .original .now) (a .table .now) (a .reach)) (patternNumber (a .p)) true) (2 * a .reach) (t .number) (t .cost)
+marked c =
+    let z = c .before .before .before .before .before .before in
+    let s = z .before .before .before .before in
+    let k = z .side-case .ensures in
+    trial-weighed _ _ _ _ _ _ (s .pre .0) _ _ _ (s .pre .1) (bytes z) true (other-case _ _ (k .0)) (omega arith) refl (c .best-of-part2 .ensures .0)
 
 tried-by-requires : tie.Need-tried-by-requires
 tried-by-requires c κs =
     let s : tie.Start = search needs in
-    (omega (arith, trial-low (c .before .before .before .best-offset .ensures .0), s .pre .0 .near), s .pre .0 .near)
+    (omega (arith, trial-low (c .before .before .before .best-of-part .ensures .0), s .pre .0 .near), s .pre .0 .near)
 
 tried-by-requires-2 : tie.Need-tried-by-requires-2
 tried-by-requires-2 c κs =
     let s : tie.Start = search needs in
-    (omega (arith, trial-low (c .before .before .before .best-offset2 .ensures .0), s .pre .0 .near), s .pre .0 .near)
+    (omega (arith, trial-low (c .before .before .before .best-of-part2 .ensures .0), s .pre .0 .near), s .pre .0 .near)
 
 returns : tie.Need-returns
 returns c =
     let t = c .before in
     let q = t .before .before .before in
     let p = q .before in (
-      both-sides _ _ (p .best-offset .ensures .0) (q .best-offset2 .ensures .0),
-      both-tried _ _ (p .best-offset .ensures .0) (q .best-offset2 .ensures .0) (t .tried-by .ensures .0) (c .tried-by2 .ensures .0),
+      both-sides _ _ (unmarked p) (marked q),
+      both-tried _ _ (unmarked p) (marked q) (t .tried-by .ensures .0) (c .tried-by2 .ensures .0),
     )
 
 pub best-sides-spec : {M : Type 1} → statement M
 best-sides-spec =
-    tie.close (tie.spec side-case-requires best-offset-requires (λ c. search needs) best-offset-requires-2 (λ c. search needs)
+    tie.close (tie.spec side-case-requires (λ c. search needs) (λ c. search needs) (λ c. search needs) (λ c. search needs) (λ c. search needs)
+    size-of-requires cast-size0 sub-size0 (λ c κs. tt) best-of-part-requires best-of-part-requires-2 (λ c. search needs)
     tried-by-requires tried-by-requires-2 (λ c. search needs) returns)
