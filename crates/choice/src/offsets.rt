@@ -1,11 +1,11 @@
 // The best offset of a part of a block. A part's cost falls up to its median and rises from there, so the best level is next to it.
 ghost use mathlib.Core.Path.{_≡_};
 ghost use mathlib.Core.Bool.{true};
-ghost use Prim.Native.Nat.{_+_, _-_, _*_, _<_, _≤_, _^_};
+ghost use Prim.Native.Nat.{_+_, _-_, _*_, _<_, _≤_};
 ghost use lib.ListN.{length};
 ghost use Rattle.depth_table.specs.Table.{tableOk, mostValues};
 ghost use Rattle.pattern.specs.Words.{patternNumber};
-ghost use Rattle.choice.specs.Layers.{Fits, Layered, Parted};
+ghost use Rattle.choice.specs.Layers.{Fits, Parted};
 ghost use Rattle.choice.specs.Trial.{Better, TrialOf};
 ghost use Rattle.choice.specs.Turn.{twice, Turn, UpTried, DownTried, Findable, offsetCost};
 use crate::layers::LAYER_WORDS;
@@ -15,7 +15,6 @@ use crate::parts::Part;
 use crate::parts::cost_at;
 use crate::parts::count_below;
 use depth_table::DepthIndex;
-use pattern::Pattern;
 use pattern::lesser;
 
 // The number of an offset, and what a part costs there.
@@ -161,27 +160,25 @@ fn best_down(
     )
 }
 
-// The first offset of least cost of a part of so many samples, where its depth has the given index, and its cost.
+// The first offset of least cost of a part, where its depth has the given index, and its cost.
 pub(crate) fn best_of_part(
     samples: &[u8],
     below: &[u64; LAYER_WORDS],
     planes: &[u64; PLANE_WORDS],
-    marks: Pattern,
-    size: u32,
+    part: Part,
     table: &[u8],
     index: DepthIndex,
     reach: usize,
 ) -> Trial
-    requires { ⌜ Parted (now samples) (now below) (now planes) (patternNumber marks) size × Findable (now table) (index .0) reach ⌝ }
-    ensures { λ r. ⌜ TrialOf (offsetCost (now (samples .entry)) (patternNumber marks) true (now (table .entry)) (index .0)) (2 * reach)
+    requires { ⌜ Parted (now samples) (now below) (now planes) (patternNumber (part .marks)) (part .size)
+        × Fits (part .wide) (patternNumber (part .marks))
+        × Findable (now table) (index .0) reach ⌝ }
+    ensures { λ r. ⌜ TrialOf
+        (offsetCost (now (samples .entry)) (patternNumber (part .marks)) true (now (table .entry)) (index .0)) (2 * reach)
         (r .number) (r .cost) × (r .cost ≤ 65280) ⌝ }
 {
     let at = index.0;
-    let part = Part {
-        marks,
-        size,
-        wide: 64 < samples.len(),
-    };
+    let size = part.size;
     let last = at + lesser(reach, table.len() - 1 - at);
     let end = at - lesser(reach, at);
     let v = wide(table[at]);

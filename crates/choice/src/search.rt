@@ -24,6 +24,7 @@ use crate::layers::below_layers;
 use crate::layers::bit_planes;
 use crate::offsets::Trial;
 use crate::offsets::best_of_part;
+use crate::parts::Part;
 use crate::parts::others;
 use crate::parts::size_of;
 use depth_table::DepthIndex;
@@ -95,15 +96,25 @@ fn best_sides(
     let k = side_case(n, p, false);
     let at0 = indices[k];
     let at1 = indices[(k + 4) % 8];
-    let size1 = size_of(p, 64 < original.len());
+    let wide = 64 < original.len();
+    let size1 = size_of(p, wide);
     let size0 = original.len() as u32 - size1;
     let rest = others(below, p);
+    let part0 = Part {
+        marks: rest,
+        size: size0,
+        wide,
+    };
+    let part1 = Part {
+        marks: p,
+        size: size1,
+        wide,
+    };
     let unmarked = best_of_part(
         original,
         below,
         planes,
-        rest,
-        size0,
+        part0,
         table,
         DepthIndex(at0),
         reach,
@@ -112,8 +123,7 @@ fn best_sides(
         original,
         below,
         planes,
-        p,
-        size1,
+        part1,
         table,
         DepthIndex(at1),
         reach,

@@ -47,8 +47,10 @@ best-of-part-requires : tie.Need-best-of-part-requires
 best-of-part-requires c κs =
     let z = c .before .before .before .before in
     let s = z .before .before .before .before in
-    let k = z .side-case .ensures in (
-      parted-others _ _ _ _ _ _ (s .pre .0) _ _ _ (s .pre .1) (bytes z) (c .before .size-of .ensures .0) (c .others .ensures),
+    let k = z .side-case .ensures in
+    let part = parted-others _ _ _ _ _ _ (s .pre .0) _ _ _ (s .pre .1) (bytes z) (c .before .size-of .ensures .0) (c .others .ensures) in (
+      part,
+      fits-block _ _ (s .pre .1 .layers .few) (part .small),
       findable _ _ _ _ _ _ (s .pre .0) _ _ _ (s .pre .1) (bytes z) false (k .0) (k .1) (c .others .ensures),
     )
 
@@ -56,8 +58,10 @@ best-of-part-requires-2 : tie.Need-best-of-part-requires-2
 best-of-part-requires-2 c κs =
     let z = c .before .before .before .before .before in
     let s = z .before .before .before .before in
-    let k = z .side-case .ensures in (
-      parted-marked _ _ _ _ _ _ (s .pre .0) _ _ _ (s .pre .1) (bytes z) (c .before .before .size-of .ensures .0),
+    let k = z .side-case .ensures in
+    let part = parted-marked _ _ _ _ _ _ (s .pre .0) _ _ _ (s .pre .1) (bytes z) (c .before .before .size-of .ensures .0) in (
+      part,
+      fits-block _ _ (s .pre .1 .layers .few) (part .small),
       findable _ _ _ _ _ _ (s .pre .0) _ _ _ (s .pre .1) (bytes z) true (other-case _ _ (k .0)) (omega arith) refl,
     )
 
