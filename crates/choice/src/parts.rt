@@ -1,6 +1,6 @@
 // What the samples of a part of a block cost, from the block's layers.
 ghost use mathlib.Core.Path.{_≡_};
-ghost use mathlib.Core.Bool.{true, cond};
+ghost use mathlib.Core.Bool.{true};
 ghost use Prim.Native.Nat.{_<_, _≤_, _^_};
 ghost use lib.Bits.{bitAnd, bitXor};
 ghost use lib.Count.{ones};

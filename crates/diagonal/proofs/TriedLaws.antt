@@ -79,25 +79,29 @@ module _ (C : Case) (k : Accepted C) (built : Built (C .n) (C .list) (C .count))
   twice : (i : ℕ) → i < C .count → turned (turned (entry i)) ≡ entry i
   twice i l = transposed-transposed (C .n) (entry i) (entry-lt (C .n) i (counted i l))
 
-  partner-of : (i : ℕ) → i < C .count → OnlyOne (λ j. pair i j) (C .count)
-  partner-of i l =
+  -- one entry passes a test that tells the transposed pattern of entry i
+  once :
+      (i : ℕ) → i < C .count → (test : ℕ → Bool)
+      → ((j : ℕ) → j < C .count → entry j ≡ turned (entry i) → test j ≡ true)
+      → ((j : ℕ) → j < C .count → test j ≡ true → entry j ≡ turned (entry i)) → OnlyOne test (C .count)
+  once i l test passed told =
       let o = list-closed (C .n) i (counted i l) in
+      let inside : o .index < C .count = omega (arith, o .inside, built .counted) in
       record {
         place = o .index;
-        inside = omega (arith, o .inside, built .counted);
-        passes = eq-eqb _ _ (o .there);
-        only = λ j h q. o .only j (counted j h) (eqb-true (entry j) (turned (entry i)) q);
+        inside = inside;
+        passes = passed (o .index) inside (o .there);
+        only = λ j h q. o .only j (counted j h) (told j h q);
       }
+
+  -- each entry is paired with one, and one is paired with it
+  partner-of : (i : ℕ) → i < C .count → OnlyOne (λ j. pair i j) (C .count)
+  partner-of i l = once i l (λ j. pair i j) (λ j h e. eq-eqb _ _ e) (λ j h q. eqb-true (entry j) (turned (entry i)) q)
 
   partner-for : (j : ℕ) → j < C .count → OnlyOne (λ i. pair i j) (C .count)
   partner-for j l =
-      let o = list-closed (C .n) j (counted j l) in
-      record {
-        place = o .index;
-        inside = omega (arith, o .inside, built .counted);
-        passes = eq-eqb _ _ (sym (twice j l) ∙ ap turned (sym (o .there)));
-        only = λ i h q. o .only i (counted i h) (sym (twice i h) ∙ ap turned (sym (eqb-true (entry j) (turned (entry i)) q)));
-      }
+      once j l (λ i. pair i j) (λ i h e. eq-eqb _ _ (sym (twice j l) ∙ ap turned (sym e)))
+      (λ i h q. sym (twice i h) ∙ ap turned (sym (eqb-true (entry j) (turned (entry i)) q)))
 
   -- an entry in the order of patterns; the list is the same for both cases
   entry-at : (contour i : ℕ) → i < C .count → cond (ltb i (C .count)) (getD (C .list) i 0) contour ≡ entry i

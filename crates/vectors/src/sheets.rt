@@ -1,5 +1,5 @@
 // The calls on sheets: an empty state, records placed in turn, and a sheet composed. Each answers whether its answer was written.
-ghost use Prim.Native.Nat.{_≤_, _<_};
+ghost use Prim.Native.Nat.{_<_};
 use crate::output;
 use crate::output::RECORDS;
 use crate::reader;
