@@ -28,7 +28,7 @@
 extern "C" {
 #endif
 
-enum { DEPTH_BENCH_STACK_PREDICT = 1024, DEPTH_BENCH_STACK_PATTERN_OF = 147456, DEPTH_BENCH_STACK_CHOOSE = 163840 };
+enum { DEPTH_BENCH_STACK_PREDICT = 1024, DEPTH_BENCH_STACK_PATTERN_OF = 147456, DEPTH_BENCH_STACK_CHOOSE = 172032 };
 
 /* marks: the number of marked samples of the pattern. */
 typedef struct { uint32_t refusal, marks; } depth_bench_prediction;

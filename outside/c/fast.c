@@ -1,13 +1,14 @@
 /* The edge list and the choice by the bench's own method, in C, to compare speeds with; for sound input only. A choice, once a block: the
-   index of the depth in each of the eight cases, the pattern of the samples below each value, and the bit planes of the samples. A side's
-   cost is convex in the value, so the turn along the table is found by halving, and the best level is there or one step further; how many
-   offsets a trial one by one takes follows from the best. The list: the marks of a row are a prefix or a suffix of it, and an equal entry
-   is looked for among those with as many marks. Each is compiled for patterns of one word and of four. */
+   index of the depth in each of the eight cases, the pattern of the samples below each value, and for each eight samples the sums by the
+   byte that marks them. A side's cost is convex in the value, so the turn along the table is found by halving, and the best level is
+   there or one step further; how many offsets a trial one by one takes follows from the best. The list: the marks of a row are a prefix or
+   a suffix of it, and an equal entry is looked for among those with as many marks. Each is compiled for patterns of one word and of four. */
 #include "fast.h"
 
 #define INLINE static inline __attribute__((always_inline))
 
-typedef struct { uint64_t below[257][4], planes[8][4]; size_t index[8]; } prepared;
+typedef struct { uint64_t below[257][4]; uint16_t sums[32][256]; size_t index[8]; } prepared;
+typedef struct { const uint64_t *marks; uint32_t size, sum; } side;
 typedef struct { size_t number; uint32_t cost; } trial;
 
 /* No popcnt instruction, as in the library. */
@@ -48,11 +49,13 @@ INLINE void prepare(size_t words, prepared *p, size_t n, const uint8_t *border, 
     for (size_t v = 0; v < 257; v++) for (size_t w = 0; w < words; w++) p->below[v][w] = 0;
     for (size_t i = 0; i < n * n; i++) p->below[original[i] + 1][i / 64] |= (uint64_t)1 << i % 64;
     for (size_t v = 0; v < 256; v++) for (size_t w = 0; w < words; w++) p->below[v + 1][w] |= p->below[v][w];
-    for (size_t b = 0; b < 8; b++) {
-        for (size_t w = 0; w < words; w++) p->planes[b][w] = 0;
-        for (size_t i = 0; i < n * n; i++) p->planes[b][i / 64] |= (uint64_t)(original[i] >> (7 - b) & 1) << i % 64;
-        p->index[b] = index_of(table, table_len, case_depth(n, border, b));
+    for (size_t r = 0; r < 8 * words; r++) p->sums[r][0] = 0;
+    for (size_t i = 0; i < n * n; i++) {
+        uint16_t *sums = p->sums[i / 8];
+        size_t width = (size_t)1 << i % 8;
+        for (size_t b = 0; b < width; b++) sums[width + b] = (uint16_t)(sums[b] + original[i]);
     }
+    for (size_t k = 0; k < 8; k++) p->index[k] = index_of(table, table_len, case_depth(n, border, k));
 }
 
 INLINE uint32_t count_below(size_t words, const prepared *p, const uint64_t *part, size_t v) {
@@ -61,47 +64,47 @@ INLINE uint32_t count_below(size_t words, const prepared *p, const uint64_t *par
     return sum;
 }
 
-INLINE uint32_t cost_at(size_t words, const prepared *p, const uint64_t *part, uint32_t size, uint32_t v) {
-    uint32_t sum = 0, count = count_below(words, p, part, v);
-    for (size_t b = 0; b < 8; b++) {
-        uint32_t differ = 0;
-        for (size_t w = 0; w < words; w++) differ += ones_of_word(part[w] & (p->planes[b][w] ^ p->below[v][w]));
-        sum = 2 * sum + differ;
-    }
-    return sum + 2 * v * count - (255 * count + v * size);
+/* The sum of the samples that both patterns mark. */
+INLINE uint32_t sum_of(size_t words, const prepared *p, const uint64_t *a, const uint64_t *b) {
+    uint32_t sum = 0;
+    for (size_t w = 0; w < words; w++) for (size_t k = 0; k < 8; k++) sum += p->sums[8 * w + k][(a[w] & b[w]) >> 8 * k & 255];
+    return sum;
+}
+
+/* Samples below v cost v less the sample, the others the sample less v. */
+INLINE uint32_t cost_at(size_t words, const prepared *p, side part, uint32_t v) {
+    uint32_t count = count_below(words, p, part.marks, v), lower = sum_of(words, p, part.marks, p->below[v]);
+    return part.sum + 2 * v * count - (2 * lower + v * part.size);
 }
 
 /* The last index of low .. high - 1, or low, of whose value plus `plus` less than half of the limit is below. */
-INLINE size_t turn(size_t words, const prepared *p, const uint64_t *part, uint32_t limit, const uint8_t *table, size_t plus, size_t low,
-    size_t high) {
+INLINE size_t turn(size_t words, const prepared *p, side part, uint32_t limit, const uint8_t *table, size_t plus, size_t low, size_t high) {
     while (low + 1 < high) {
         size_t middle = (low + high) / 2;
-        if (2 * count_below(words, p, part, table[middle] + plus) < limit) low = middle; else high = middle;
+        if (2 * count_below(words, p, part.marks, table[middle] + plus) < limit) low = middle; else high = middle;
     }
     return low;
 }
 
 /* The better of two levels; where they are next to each other as values the farther costs less. */
-INLINE trial better(size_t words, const prepared *p, const uint64_t *part, uint32_t size, uint32_t near, size_t near_number, uint32_t far,
-    size_t far_number) {
-    trial best = { far_number, cost_at(words, p, part, size, far) };
+INLINE trial better(size_t words, const prepared *p, side part, uint32_t near, size_t near_number, uint32_t far, size_t far_number) {
+    trial best = { far_number, cost_at(words, p, part, far) };
     if (near + 1 == far || far + 1 == near) return best;
-    uint32_t cost = cost_at(words, p, part, size, near);
+    uint32_t cost = cost_at(words, p, part, near);
     return best.cost < cost ? best : (trial){ near_number, cost };
 }
 
-INLINE trial best_of_part(size_t words, const prepared *p, const uint64_t *part, uint32_t size, const uint8_t *table, size_t len, size_t at,
-    size_t reach) {
+INLINE trial best_of_part(size_t words, const prepared *p, side part, const uint8_t *table, size_t len, size_t at, size_t reach) {
     size_t last = reach < len - 1 - at ? at + reach : len - 1, end = reach < at ? at - reach : 0;
-    if (at < last && 2 * count_below(words, p, part, table[at] + 1u) < size) {
-        size_t low = turn(words, p, part, size, table, 1, at, last);
-        return better(words, p, part, size, table[low], 2 * (low - at), table[low + 1], 2 * (low + 1 - at));
+    if (at < last && 2 * count_below(words, p, part.marks, table[at] + 1u) < part.size) {
+        size_t low = turn(words, p, part, part.size, table, 1, at, last);
+        return better(words, p, part, table[low], 2 * (low - at), table[low + 1], 2 * (low + 1 - at));
     }
-    if (end < at && size < 2 * count_below(words, p, part, table[at])) {
-        size_t low = turn(words, p, part, size + 1, table, 0, end, at), near = at - low - 1;
-        return better(words, p, part, size, table[low + 1], near == 0 ? 0 : 2 * near - 1, table[low], 2 * (at - low) - 1);
+    if (end < at && part.size < 2 * count_below(words, p, part.marks, table[at])) {
+        size_t low = turn(words, p, part, part.size + 1, table, 0, end, at), near = at - low - 1;
+        return better(words, p, part, table[low + 1], near == 0 ? 0 : 2 * near - 1, table[low], 2 * (at - low) - 1);
     }
-    return (trial){ 0, cost_at(words, p, part, size, table[at]) };
+    return (trial){ 0, cost_at(words, p, part, table[at]) };
 }
 
 /* How many offsets a trial one by one takes for a side: up to its best one where that costs nothing, else all. */
@@ -125,9 +128,10 @@ INLINE depth_bench_choice choose(size_t words, size_t n, const uint64_t *list, s
         const uint64_t *pattern = k < count ? list + words * k : contour;
         size_t origin = mark(pattern, 0), edges = 2 * (origin ^ mark(pattern, n - 1)) + (origin ^ mark(pattern, (n - 1) * n));
         for (size_t w = 0; w < words; w++) rest[w] = p.below[256][w] - pattern[w];
-        uint32_t size = ones(words, pattern), others = (uint32_t)(n * n) - size;
-        trial unmarked = best_of_part(words, &p, rest, others, table, table_len, p.index[4 * origin + edges], reach);
-        trial marked = best_of_part(words, &p, pattern, size, table, table_len, p.index[4 * !origin + edges], reach);
+        side one = { pattern, ones(words, pattern), sum_of(words, &p, pattern, pattern) };
+        side other = { rest, (uint32_t)(n * n) - one.size, sum_of(words, &p, rest, rest) };
+        trial unmarked = best_of_part(words, &p, other, table, table_len, p.index[4 * origin + edges], reach);
+        trial marked = best_of_part(words, &p, one, table, table_len, p.index[4 * !origin + edges], reach);
         best.tried += tried(unmarked, reach) + tried(marked, reach);
         if (unmarked.cost + marked.cost < best.cost)
             best = (depth_bench_choice){ 0, k >= count, k < count ? (uint32_t)k : 0, offset_of(unmarked.number), offset_of(marked.number),

@@ -1,29 +1,23 @@
--- How the layers of a block are built, word by word: samples by value, then those below each value; and sums bit by bit.
+-- How the layers of a block are built, word by word: samples by value, then those below each value.
 use Prim.Native.Nat.{ℕ, zero, suc, _+_, _-_, _*_, _/_, _%_, _^_, _≤_, _<_, min}
 use mathlib.Core.Path.{_≡_, refl, sym, ap, ap₂, _∙_}
 use mathlib.Core.Bool.{Bool, true, false}
 use mathlib.Core.List.{List}
 use native.Mathlib.Decide.{ℕ-discrete, decLe, decLt}
-use native.Mathlib.Nat.{add-mul, mul-le-mul, lt-of-lt-of-le}
+use native.Mathlib.Nat.{add-mul, lt-of-lt-of-le}
 use native.Mathlib.Omega.{arith}
-use lib.Bits.{bitAnd, bitXor}
-use lib.Count.{ones}
 use lib.Dec.{eqb, ltb}
 use lib.ListN.{length, getD, set, replicate, length-set, getD-replicate}
 use lib.Pow.{pow-mono}
 use lib.Seq.{getD-set-same, getD-set-other}
 use borrow.Author.Tests.{eq-eqb, ne-eqb, le-ltb}
-use Rattle.arith.specs.Bits.{bit, bits, testBit}
+use Rattle.arith.specs.Bits.{bit, bits}
 use Rattle.arith.proofs.BitLaws.{bits-lt, bits-ext, bits-append, bits-on, bits-off, bits-none, room-above}
 use Rattle.arith.proofs.ListLaws.{stored}
 use Rattle.pattern.specs.Words.{joined, fourWords}
 use Rattle.pattern.proofs.WordLaws.{four-same}
-use Rattle.choice.specs.Cost.{sideCost}
-use Rattle.choice.specs.Tally.{sideBelow}
-use Rattle.choice.specs.Layers.{layerAt, planeAt, wordOf, EqualWords, BelowWords, PlaneWords, BelowLayers, BitPlanes, Layered, flipped, partSum, Parted}
-use Rattle.choice.proofs.LayerLaws.{below-count, partSum-le, partSum-none, partSum-step, flipped-byte, flipped-plane, cost-by-sums}
-use Rattle.choice.proofs.TallyLaws.{count-le, one-more}
-use Rattle.choice.proofs.CostLaws.{sideCost-le}
+use Rattle.choice.specs.Layers.{wordOf, EqualWords, BelowWords, BelowLayers}
+use Rattle.choice.proofs.TallyLaws.{one-more}
 
 -- ---- the words of a layer
 
@@ -83,17 +77,6 @@ module _ (samples : List ℕ) (few : length samples ≤ 256) where
           let d : a / 4 ≡ v = omega arith in
           let m : a % 4 ≡ i = omega arith in
           q a (omega arith) ∙ ap₂ (λ (x y : ℕ). wordOf (λ k. ltb (getD samples k 0) x) (length samples) y) d m
-
-  pub planes-joined : (l : List ℕ) → PlaneWords 32 samples l → BitPlanes 8 samples l
-  planes-joined l q b h =
-      layer-by (λ k. testBit (getD samples k 0) (7 - b)) (length samples) few
-      (word 0 (omega arith) (omega arith)) (word 1 (omega arith) refl) (word 2 (omega arith) refl) (word 3 (omega arith) refl)
-    where
-      word : (i : ℕ) → i < 4 → {a : ℕ} → a ≡ 8 * i + b → getD l a 0 ≡ wordOf (λ k. testBit (getD samples k 0) (7 - b)) (length samples) i
-      word i hi {a} e =
-          let d : a % 8 ≡ b = omega arith in
-          let m : a / 8 ≡ i = omega arith in
-          q a (omega arith) ∙ ap₂ (λ (x y : ℕ). wordOf (λ k. testBit (getD samples k 0) (7 - x)) (length samples) y) d m
 
 -- ---- one sample more
 
@@ -216,56 +199,3 @@ module _ (samples : List ℕ) where
 
     pub below-more : a + 4 < length l → BelowWords (a + 1 + 4) samples (set l (a + 4) (x + y))
     below-more h b g = stored (λ t. wordOf (under (t / 4)) m (t % 4)) 0 l (a + 4) (x + y) h next q b (omega arith)
-
--- ---- sums bit by bit, the highest first
-
-module _ (samples below planes : List ℕ) (q : Layered samples below planes) (bytes : (k : ℕ) → getD samples k 0 < 256) (w : ℕ) (small : w < 2 ^ length samples) (v : ℕ) (hv : v < 256) where
-  abbrev part : ℕ → ℕ
-  part j = partSum (length samples) (flipped samples v) w j
-
-  pub sum-turn : (b : ℕ) → b < 8 → {sum n : ℕ} → sum ≡ part (8 - b) → n ≡ ones (bitAnd w (bitXor (planeAt planes b) (layerAt below v))) → 2 * sum + n ≡ part (8 - (b + 1))
-  sum-turn b h {sum} {n} es en =
-      let e : 8 - b ≡ 7 - b + 1 = omega arith in
-      let d : 8 - (b + 1) ≡ 7 - b = omega arith in
-      let plane = ap₂ bitXor (q .plane-at b h) (q .below-at v (omega arith)) ∙ flipped-plane (length samples) samples bytes v (7 - b) (omega arith) in
-      ap₂ (λ (x y : ℕ). 2 * x + y) (es ∙ ap part e) (en ∙ ap (λ (x : ℕ). ones (bitAnd w x)) plane)
-      ∙ partSum-step (length samples) (flipped samples v) w small (7 - b)
-      ∙ ap part (sym d)
-
-  pub sum-small : (j : ℕ) → part j ≤ 65280
-  sum-small j = let few = q .few in omega (arith, partSum-le (length samples) (flipped samples v) w (flipped-byte (length samples) samples bytes v) j)
-
-  pub sum-none : 0 ≡ part 8
-  sum-none = partSum-none (length samples) (flipped samples v) w (flipped-byte (length samples) samples bytes v)
-
--- ---- the cost at a value, from the counts and the sum of a part
-
-pub record Sums (v count size sum cost : ℕ) : Type 0 where
-  pub balance : cost + (255 * count + v * size) ≡ sum + 2 * (v * count)
-  pub few : count ≤ 256
-  pub count-small : v * count ≤ 65280
-  pub size-small : v * size ≤ 65280
-  pub sum-least : sum ≤ 65280
-  pub cost-small : cost ≤ 65280
-
-module _ (samples below planes : List ℕ) (word size : ℕ) (q : Parted samples below planes word size) (v : ℕ) (hv : v < 256) where
-  abbrev c : ℕ
-  c = length samples
-
-  low-count : ones (bitAnd word (layerAt below v)) ≡ sideBelow c samples word true v
-  low-count = rw (q .layers .below-at v (omega arith)) (below-count c samples word (q .small) v)
-
-  pub sums-at :
-      ((k : ℕ) → getD samples k 0 < 256)
-      → Sums v (ones (bitAnd word (layerAt below v))) size (partSum c (flipped samples v) word 0) (sideCost c samples word true v)
-  sums-at bytes =
-      let few = q .layers .few in
-      let n = ones (bitAnd word (layerAt below v)) in
-      record {
-        balance = rw (low-count, q .its-size) (cost-by-sums c samples word (q .small) bytes v);
-        few = omega (arith, low-count, count-le samples word true c (λ x. ltb x v));
-        count-small = omega (arith, mul-le-mul {n₁ = v} {m₁ = ones (bitAnd word (layerAt below v))} {n₂ = 255} {m₂ = 256} (omega arith) (omega (arith, low-count, count-le samples word true c (λ x. ltb x v))));
-        size-small = omega (arith, mul-le-mul {n₁ = v} {m₁ = size} {n₂ = 255} {m₂ = 256} (omega arith) (omega (arith, q .its-size, count-le samples word true c (λ x. true))));
-        sum-least = sum-small samples below planes (q .layers) bytes word (q .small) v hv 0;
-        cost-small = omega (arith, sideCost-le c samples word true v hv bytes);
-      }

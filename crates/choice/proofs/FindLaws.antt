@@ -105,7 +105,7 @@ last-in count i R h = omega arith
 pub end-in : (i R : ℕ) → i - min R i ≡ i - R
 end-in i R = omega arith
 
-module _ (samples below planes : List ℕ) (word size : ℕ) (q : Parted samples below planes word size) (table : List ℕ) (i R : ℕ) (f : Findable table i R) where
+module _ (samples below sums : List ℕ) (word size sum : ℕ) (q : Parted samples below sums word size sum) (table : List ℕ) (i R : ℕ) (f : Findable table i R) where
   abbrev c : ℕ
   c = length samples
 

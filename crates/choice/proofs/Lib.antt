@@ -13,6 +13,8 @@ pub mod TallyLaws
 pub mod TrialLaws
 pub mod TriedLaws
 pub mod LayerLaws
+pub mod SumLaws
+pub mod PartLaws
 pub mod TurnLaws
 pub mod BuildLaws
 pub mod FindLaws

@@ -116,19 +116,32 @@ pub record KeptSides (C : Case) (n at a b cost : ℕ) : Type 0 where
   pub kept : Kept (λ p. bestCost C (patternAt C p)) n at cost
   pub sides : SidesOf C (patternAt C at) a b cost
 
+-- before the first pattern: a cost above all
+abbrev pub aboveAll : ℕ
+aboveAll = 130561
+
+abbrev pub SidesSoFar : Case → ℕ → ℕ → ℕ → ℕ → ℕ → Type 0
+SidesSoFar C n at a b cost = ((n ≡ 0) × (cost ≡ aboveAll)) ⊎ KeptSides C n at a b cost
+
 module _ (C : Case) where
-  pub sides-one : {a b c : ℕ} → SidesOf C (patternAt C 0) a b c → KeptSides C 1 0 a b c
-  sides-one p = record { kept = kept-one (p .its-cost); sides = p }
+  sides-one : {n a b c : ℕ} → n ≡ 0 → SidesOf C (patternAt C n) a b c → KeptSides C (n + 1) n a b c
+  sides-one {a = a} {b = b} {c = c} e p =
+      rw e (let q : SidesOf C (patternAt C 0) a b c = rw e at p in record { kept = kept-one (q .its-cost); sides = q })
 
   -- a turn: pattern n is taken, or passed
   pub sides-new :
-      {n at a b c a′ b′ c′ : ℕ} → KeptSides C n at a b c → SidesOf C (patternAt C n) a′ b′ c′ → c′ < c → KeptSides C (n + 1) n a′ b′ c′
-  sides-new {c′ = c′} k p l = record { kept = kept-new c′ (k .kept) (p .its-cost) l refl refl; sides = p }
+      {n at a b c a′ b′ c′ : ℕ} → SidesSoFar C n at a b c → SidesOf C (patternAt C n) a′ b′ c′ → c′ < c → KeptSides C (n + 1) n a′ b′ c′
+  sides-new {c′ = c′} s p l =
+      ⊎-elim (λ f. sides-one (f .0) p) (λ k. record { kept = kept-new c′ (k .kept) (p .its-cost) l refl refl; sides = p }) s
 
   pub sides-old :
-      {n at a b c a′ b′ c′ : ℕ} → KeptSides C n at a b c → SidesOf C (patternAt C n) a′ b′ c′ → c ≤ c′ → KeptSides C (n + 1) at a b c
-  sides-old {c′ = c′} k p l = record { kept = kept-old c′ (k .kept) (p .its-cost) l refl refl; sides = k .sides }
+      {n at a b c a′ b′ c′ : ℕ} → SidesSoFar C n at a b c → SidesOf C (patternAt C n) a′ b′ c′ → c′ < aboveAll → c ≤ c′ → KeptSides C (n + 1) at a b c
+  sides-old {c′ = c′} s p few l =
+      ⊎-elim (λ f. absurd (omega (arith, f .1))) (λ k. record { kept = kept-old c′ (k .kept) (p .its-cost) l refl refl; sides = k .sides }) s
 
-  pub sides-all : {m at a b c t : ℕ} → KeptSides C m at a b c → t ≡ triedTo C m → m ≡ lastPattern C + 1 → PickedOf C at a b c t
+  pub sides-all : {m at a b c t : ℕ} → SidesSoFar C m at a b c → t ≡ triedTo C m → m ≡ lastPattern C + 1 → PickedOf C at a b c t
   unfolding bestPattern tried
-  sides-all k q e = record { best = kept-all (lastPattern C) (k .kept) e; sides = k .sides; counted = q ∙ ap (triedTo C) e }
+  sides-all s q e =
+      ⊎-elim (λ f. absurd (omega (arith, f .0)))
+      (λ k. record { best = kept-all (lastPattern C) (k .kept) e; sides = k .sides; counted = q ∙ ap (triedTo C) e })
+      s

@@ -49,10 +49,10 @@ module _ (C : Case) where
   unfolding triedAt
   tried-here p {w} {count} e q = q ∙ ap (triedAt C) e
 
-  -- the first pattern, and one more
-  pub tried-first : {b : ℕ} → b ≡ triedAt C (patternAt C 0) → b ≡ triedTo C 1
+  -- before the first pattern, and one more
+  pub tried-none : 0 ≡ triedTo C 0
   unfolding sumTo
-  tried-first {b} q = omega (arith, q)
+  tried-none = refl
 
   pub tried-more : (k : ℕ) {a b : ℕ} → a ≡ triedTo C k → b ≡ triedAt C (patternAt C k) → a + b ≡ triedTo C (k + 1)
   unfolding sumTo

@@ -17,7 +17,7 @@ use Rattle.prediction.proofs.SideCallLaws.{sides-accepted}
 use Rattle.depth_table.specs.Offset.{levelOf}
 use Rattle.choice.specs.Offset.{offset}
 use Rattle.choice.specs.Cost.{sideCost}
-use Rattle.choice.specs.Layers.{layerAt, belowWord, Parted}
+use Rattle.choice.specs.Layers.{layerAt, belowWord, markedSum, Parted}
 use Rattle.choice.specs.Tally.{sideSize}
 use Rattle.choice.specs.Trial.{TrialOf}
 use Rattle.choice.specs.Turn.{offsetCost, Findable}
@@ -31,10 +31,17 @@ use Rattle.choice.specs.Picked.{blockCase, Weighable, Prepared}
 use Rattle.choice.proofs.CaseLaws.{depth-case}
 
 module _ (n w : ℕ) (s o t : List ℕ) (R : ℕ) (h : Weighable n w s o t R) where
-  module _ (below planes indices : List ℕ) (q : Prepared n s o t below planes indices) (bytes : (k : ℕ) → getD o k 0 < 256) where
+  module _ (below sums indices : List ℕ) (q : Prepared n s o t below sums indices) (bytes : (k : ℕ) → getD o k 0 < 256) where
     -- the word marks samples of the block only
     pub word-small : w < 2 ^ length o
     word-small = rw (h .square) (sides-accepted n w s (h .sides) .inside)
+
+    -- the others of the block
+    others-are : {part : ℕ} → part ≡ bitXor (layerAt below 256) w → part ≡ bitXor (belowWord (length o) o 256) w
+    others-are ep = ep ∙ ap (λ (x : ℕ). bitXor x w) (q .layers .below-at 256 (omega arith))
+
+    pub others-small : {part : ℕ} → part ≡ bitXor (layerAt below 256) w → part < 2 ^ length o
+    others-small ep = rw (others-are ep) (part-lt (length o) o w word-small false)
 
     -- the part of its marks, and the part of all others
     module _ {size : ℕ} (e : size ≡ ones w) where
@@ -44,17 +51,19 @@ module _ (n w : ℕ) (s o t : List ℕ) (R : ℕ) (h : Weighable n w s o t R) wh
       pub size-le : size ≤ length o
       size-le = omega (arith, size-is, count-le o w true (length o) (λ x. true))
 
-      pub parted-marked : Parted o below planes w size
-      parted-marked = record { layers = q .layers; small = word-small; its-size = size-is }
+      pub parted-marked : {sum : ℕ} → sum ≡ markedSum (λ k. getD o k 0) w (length o) → Parted o below sums w size sum
+      parted-marked es = record { layers = q .layers; small = word-small; its-size = size-is; its-sum = es }
 
-      pub parted-others : {part : ℕ} → part ≡ bitXor (layerAt below 256) w → Parted o below planes part (length o - size)
-      parted-others ep =
-          rw (ep ∙ ap (λ (x : ℕ). bitXor x w) (q .layers .below-at 256 (omega arith)))
-          (record {
+      pub parted-others :
+          {part sum : ℕ} → part ≡ bitXor (layerAt below 256) w → sum ≡ markedSum (λ k. getD o k 0) part (length o)
+          → Parted o below sums part (length o - size) sum
+      parted-others {part} ep es =
+          record {
             layers = q .layers;
-            small = part-lt (length o) o w word-small false;
-            its-size = omega (arith, size-is, sizes-whole (length o) o w word-small bytes);
-          })
+            small = others-small ep;
+            its-size = rw (others-are ep) (omega (arith, size-is, sizes-whole (length o) o w word-small bytes));
+            its-sum = es;
+          }
 
     module _ (m : Bool) {j part : ℕ} (ej : j ≡ sideCase n w m) (hj : j < 8) (ep : part ≡ cond m w (bitXor (layerAt below 256) w)) where
       abbrev i : ℕ

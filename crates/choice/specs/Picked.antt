@@ -26,9 +26,9 @@ pub record Weighable (n w : ℕ) (neighbours original table : List ℕ) (reach :
 abbrev pub CaseIndices : ℕ → ℕ → List ℕ → List ℕ → List ℕ → Type 0
 CaseIndices m n neighbours table indices = (k : ℕ) → k < m → getD indices k 0 ≡ indexOf table (depthIn n neighbours k)
 
--- what is worked out once for a block: the layers of its samples, and the index of the depth in each of the eight cases
-pub record Prepared (n : ℕ) (neighbours original table below planes indices : List ℕ) : Type 0 where
-  pub layers : Layered original below planes
+-- what is worked out once for a block: the layers of its samples with their sums, and the index of the depth in each of the eight cases
+pub record Prepared (n : ℕ) (neighbours original table below sums indices : List ℕ) : Type 0 where
+  pub layers : Layered original below sums
   pub index-at : CaseIndices 8 n neighbours table indices
 
 -- the numbers of the best offsets of a pattern, and its cost there

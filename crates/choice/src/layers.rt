@@ -1,19 +1,15 @@
-// A block's samples in layers, each layer a pattern of four words: the samples below each depth value, and those that have each bit.
+// A block's samples in layers, each layer a pattern of four words: the samples below each depth value.
 ghost use mathlib.Core.Path.{_≡_};
-ghost use Prim.Native.Nat.{_-_, _*_, _<_, _≤_, min};
-ghost use lib.ListN.{length, getD};
+ghost use Prim.Native.Nat.{_<_, _≤_};
+ghost use lib.ListN.{length};
 ghost use Rattle.pattern.specs.Size.{greatestSamples};
-ghost use Rattle.arith.specs.Bits.{testBit};
-ghost use Rattle.choice.specs.Layers.{EqualWords, BelowLayers, BitPlanes, wordOf};
+ghost use Rattle.choice.specs.Layers.{EqualWords, BelowLayers};
 use pattern::WORDS;
-use pattern::lesser;
 
-// The words of the layers of the 256 depth values, of those and one past them, and of the 8 bit planes.
+// The words of the layers of the 256 depth values, and of those and one past them.
 const EQUAL_WORDS: usize = WORDS * 256;
 
 pub(crate) const LAYER_WORDS: usize = WORDS * 257;
-
-pub(crate) const PLANE_WORDS: usize = WORDS * 8;
 
 // A byte as a place in a slice.
 pub(crate) fn wide(x: u8) -> usize
@@ -45,45 +41,6 @@ pub(crate) fn below_layers(samples: &[u8]) -> [u64; LAYER_WORDS]
     let mut layers = [0u64; LAYER_WORDS];
     for at in 0..EQUAL_WORDS {
         layers[at + WORDS] = layers[at] + equal[at];
-    }
-    layers
-}
-
-// How many of so many samples are in word i of a layer.
-fn in_word(samples: usize, i: usize) -> usize
-    requires { ⌜ i < 4 ⌝ }
-    ensures { λ r. ⌜ r ≡ min 64 (samples - 64 * i) ⌝ }
-{
-    let from = 64 * i;
-    if samples < from {
-        return 0;
-    }
-    lesser(64, samples - from)
-}
-
-// Word i of the samples that have bit b.
-fn plane(samples: &[u8], i: usize, b: usize) -> u64
-    requires { ⌜ (i < 4) × (b < 8) ⌝ }
-    ensures { λ r. ⌜ r ≡ wordOf (λ k. testBit (getD (now (samples .entry)) k 0) b) (length (now (samples .entry))) i ⌝ }
-{
-    let count = in_word(samples.len(), i);
-    let mut word: u64 = 0;
-    for j in 0..count {
-        if (wide(samples[64 * i + j]) >> b) % 2 == 1 {
-            word += 1 << j;
-        }
-    }
-    word
-}
-
-// The samples that have each bit, the highest bit first: word i of plane b at 8i + b.
-pub(crate) fn bit_planes(samples: &[u8]) -> [u64; PLANE_WORDS]
-    requires { ⌜ length (now samples) ≤ greatestSamples ⌝ }
-    ensures { λ r. ⌜ BitPlanes 8 (now (samples .entry)) r ⌝ }
-{
-    let mut layers = [0u64; PLANE_WORDS];
-    for at in 0..PLANE_WORDS {
-        layers[at] = plane(samples, at / 8, 7 - at % 8);
     }
     layers
 }

@@ -6,6 +6,7 @@ mod offsets;
 mod parts;
 mod refusal;
 mod search;
+mod sums;
 
 pub use answer::choose;
 use record::Record;

@@ -9,11 +9,11 @@ ghost use Rattle.choice.specs.Layers.{Fits, Parted};
 ghost use Rattle.choice.specs.Trial.{Better, TrialOf};
 ghost use Rattle.choice.specs.Turn.{twice, Turn, UpTried, DownTried, Findable, offsetCost};
 use crate::layers::LAYER_WORDS;
-use crate::layers::PLANE_WORDS;
 use crate::layers::wide;
 use crate::parts::Part;
 use crate::parts::cost_at;
 use crate::parts::count_below;
+use crate::sums::SUMS;
 use depth_table::DepthIndex;
 use pattern::lesser;
 
@@ -78,13 +78,13 @@ fn number_down(k: usize) -> usize
 fn best_up(
     samples: &[u8],
     below: &[u64; LAYER_WORDS],
-    planes: &[u64; PLANE_WORDS],
+    sums: &[u16; SUMS],
     part: Part,
     table: &[u8],
     at: usize,
     last: usize,
 ) -> Trial
-    requires { ⌜ Parted (now samples) (now below) (now planes) (patternNumber (part .marks)) (part .size)
+    requires { ⌜ Parted (now samples) (now below) (now sums) (patternNumber (part .marks)) (part .size) (part .sum)
         × Fits (part .wide) (patternNumber (part .marks))
         × (tableOk (now table) ≡ true)
         × (at < last)
@@ -97,7 +97,7 @@ fn best_up(
     let next = low + 1;
     let near_value = wide(table[low]);
     let far_value = wide(table[next]);
-    let far = cost_at(samples, below, planes, part, far_value);
+    let far = cost_at(samples, below, sums, part, far_value);
     let far_number = 2 * (next - at);
     if far_value == near_value + 1 {
         return Trial {
@@ -105,7 +105,7 @@ fn best_up(
             cost: far,
         };
     }
-    let near = cost_at(samples, below, planes, part, near_value);
+    let near = cost_at(samples, below, sums, part, near_value);
     let near_number = 2 * (low - at);
     better(
         Trial {
@@ -121,13 +121,13 @@ fn best_up(
 fn best_down(
     samples: &[u8],
     below: &[u64; LAYER_WORDS],
-    planes: &[u64; PLANE_WORDS],
+    sums: &[u16; SUMS],
     part: Part,
     table: &[u8],
     at: usize,
     end: usize,
 ) -> Trial
-    requires { ⌜ Parted (now samples) (now below) (now planes) (patternNumber (part .marks)) (part .size)
+    requires { ⌜ Parted (now samples) (now below) (now sums) (patternNumber (part .marks)) (part .size) (part .sum)
         × Fits (part .wide) (patternNumber (part .marks))
         × (tableOk (now table) ≡ true)
         × (end < at)
@@ -140,7 +140,7 @@ fn best_down(
     let next = low + 1;
     let near_value = wide(table[next]);
     let far_value = wide(table[low]);
-    let far = cost_at(samples, below, planes, part, far_value);
+    let far = cost_at(samples, below, sums, part, far_value);
     let far_number = number_down(at - low);
     if near_value == far_value + 1 {
         return Trial {
@@ -148,7 +148,7 @@ fn best_down(
             cost: far,
         };
     }
-    let near = cost_at(samples, below, planes, part, near_value);
+    let near = cost_at(samples, below, sums, part, near_value);
     let near_number = number_down(at - next);
     better(
         Trial {
@@ -164,13 +164,13 @@ fn best_down(
 pub(crate) fn best_of_part(
     samples: &[u8],
     below: &[u64; LAYER_WORDS],
-    planes: &[u64; PLANE_WORDS],
+    sums: &[u16; SUMS],
     part: Part,
     table: &[u8],
     index: DepthIndex,
     reach: usize,
 ) -> Trial
-    requires { ⌜ Parted (now samples) (now below) (now planes) (patternNumber (part .marks)) (part .size)
+    requires { ⌜ Parted (now samples) (now below) (now sums) (patternNumber (part .marks)) (part .size) (part .sum)
         × Fits (part .wide) (patternNumber (part .marks))
         × Findable (now table) (index .0) reach ⌝ }
     ensures { λ r. ⌜ TrialOf
@@ -184,16 +184,16 @@ pub(crate) fn best_of_part(
     let v = wide(table[at]);
     if at < last {
         if 2 * count_below(below, part, v + 1) < size {
-            return best_up(samples, below, planes, part, table, at, last);
+            return best_up(samples, below, sums, part, table, at, last);
         }
     }
     if end < at {
         if size < 2 * count_below(below, part, v) {
-            return best_down(samples, below, planes, part, table, at, end);
+            return best_down(samples, below, sums, part, table, at, end);
         }
     }
     Trial {
         number: 0,
-        cost: cost_at(samples, below, planes, part, v),
+        cost: cost_at(samples, below, sums, part, v),
     }
 }

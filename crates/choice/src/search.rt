@@ -18,14 +18,15 @@ ghost use Rattle.choice.specs.Picked.{blockCase, Weighable, Prepared, Ca
 use crate::cases::case_depth;
 use crate::cases::side_case;
 use crate::layers::LAYER_WORDS;
-use crate::layers::PLANE_WORDS;
 use crate::layers::below_layers;
-use crate::layers::bit_planes;
 use crate::offsets::Trial;
 use crate::offsets::best_of_part;
 use crate::parts::Part;
 use crate::parts::others;
 use crate::parts::size_of;
+use crate::sums::SUMS;
+use crate::sums::eight_sums;
+use crate::sums::sum_of;
 use depth_table::DepthIndex;
 use depth_table::DepthValue;
 use depth_table::Indexed;
@@ -74,6 +75,9 @@ struct Sides {
     tried: u32,
 }
 
+// More than any pattern costs: a partition costs at most 255 for each of 256 samples.
+const ABOVE_ALL: u32 = 130561;
+
 // The best offset of each partition of a pattern, the cost of both, and how many offsets were tried for both.
 fn best_sides(
     n: usize,
@@ -83,14 +87,15 @@ fn best_sides(
     table: &[u8],
     reach: usize,
     below: &[u64; LAYER_WORDS],
-    planes: &[u64; PLANE_WORDS],
+    sums: &[u16; SUMS],
     indices: &[usize; 8],
 ) -> Sides
     requires { ⌜ Weighable n (patternNumber p) (now border) (now original) (now table) reach
-        × Prepared n (now border) (now original) (now table) (now below) (now planes) (now indices) ⌝ }
+        × Prepared n (now border) (now original) (now table) (now below) (now sums) (now indices) ⌝ }
     ensures { λ r. ⌜ SidesOf (blockCase n (now (border .entry)) (now (original .entry)) (now (table .entry)) reach) (patternNumber p)
         (r .trial0) (r .trial1) (r .cost)
-        × (r .tried ≡ triedAt (blockCase n (now (border .entry)) (now (original .entry)) (now (table .entry)) reach) (patternNumber p)) ⌝ }
+        × (r .tried ≡ triedAt (blockCase n (now (border .entry)) (now (original .entry)) (now (table .entry)) reach) (patternNumber p))
+        × (r .cost ≤ 130560) ⌝ }
 {
     let k = side_case(n, p, false);
     let at0 = indices[k];
@@ -99,34 +104,22 @@ fn best_sides(
     let size1 = size_of(p, wide);
     let size0 = original.len() as u32 - size1;
     let rest = others(below, p);
+    let sum0 = sum_of(original, sums, rest, wide);
+    let sum1 = sum_of(original, sums, p, wide);
     let part0 = Part {
         marks: rest,
         size: size0,
+        sum: sum0,
         wide,
     };
     let part1 = Part {
         marks: p,
         size: size1,
+        sum: sum1,
         wide,
     };
-    let unmarked = best_of_part(
-        original,
-        below,
-        planes,
-        part0,
-        table,
-        DepthIndex(at0),
-        reach,
-    );
-    let marked = best_of_part(
-        original,
-        below,
-        planes,
-        part1,
-        table,
-        DepthIndex(at1),
-        reach,
-    );
+    let unmarked = best_of_part(original, below, sums, part0, table, DepthIndex(at0), reach);
+    let marked = best_of_part(original, below, sums, part1, table, DepthIndex(at1), reach);
     let cost = unmarked.cost + marked.cost;
     let tried0 = tried_by(unmarked, reach);
     let tried1 = tried_by(marked, reach);
@@ -200,24 +193,19 @@ pub(crate) fn best_pattern(
         (r .number) (r .trial0) (r .trial1) (r .cost) (r .tried) ⌝ }
 {
     let below = below_layers(original);
-    let planes = bit_planes(original);
+    let sums = eight_sums(original);
     let indices = case_indices(n, border, table);
     let contour = contour_or_none(n, texture);
     let end = last_pattern(count, texture.len()) + 1;
     let mut at: usize = 0;
-    let mut best = best_sides(
-        n,
-        pattern_by(n, list, count, contour, 0),
-        border,
-        original,
-        table,
-        reach,
-        &below,
-        &planes,
-        &indices,
-    );
-    let mut tried = best.tried;
-    for p in 1..end {
+    let mut best = Sides {
+        trial0: 0,
+        trial1: 0,
+        cost: ABOVE_ALL,
+        tried: 0,
+    };
+    let mut tried: u32 = 0;
+    for p in 0..end {
         let next = best_sides(
             n,
             pattern_by(n, list, count, contour, p),
@@ -226,7 +214,7 @@ pub(crate) fn best_pattern(
             table,
             reach,
             &below,
-            &planes,
+            &sums,
             &indices,
         );
         tried += next.tried;

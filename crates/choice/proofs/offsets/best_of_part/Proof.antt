@@ -49,7 +49,7 @@ returns c =
     let s = w .before .before .before .before .before .before in
     let a = s .args in
     let last = ap (λ (x : ℕ). a .index .0 + x) (w .before .before .before .lesser .ensures) ∙ last-in (length (a .table .now)) (a .index .0) (a .reach) (s .pre .2 .inside) in (
-      up-found _ _ _ _ _ (s .pre .0) (a .table .now) (a .index .0) (a .reach) (s .pre .2) last
+      up-found _ _ _ _ _ _ (s .pre .0) (a .table .now) (a .index .0) (a .reach) (s .pre .2) last
           (fewer-up w (c .before .before .count-below .ensures .0) (c .before .if2 .taken))
           (c .best-up .ensures .0),
       c .best-up .ensures .1,
@@ -74,7 +74,7 @@ returns-2 c =
     let a = s .args in
     let end = ap (λ (x : ℕ). a .index .0 - x) (w .before .before .lesser2 .ensures) ∙ end-in (a .index .0) (a .reach) in
     let value : w .wide .result ≡ getD (a .table .now) (a .index .0) 0 + 0 = omega (arith, w .wide .ensures .0) in (
-      down-found _ _ _ _ _ (s .pre .0) (a .table .now) (a .index .0) (a .reach) (s .pre .2) end
+      down-found _ _ _ _ _ _ (s .pre .0) (a .table .now) (a .index .0) (a .reach) (s .pre .2) end
           (more-down w (c .before .before .count-below2 .ensures .0) (c .before .if4 .taken))
           (c .best-down .ensures .0),
       c .best-down .ensures .1,
@@ -107,7 +107,7 @@ returns-3 c =
     (λ x. inl (omega (arith, x .left, end)))
     (c .before .if3 .came)
     in (
-      here-found _ _ _ _ _ (s .pre .0) (a .table .now) (a .index .0) (a .reach) (s .pre .2) up down
+      here-found _ _ _ _ _ _ (s .pre .0) (a .table .now) (a .index .0) (a .reach) (s .pre .2) up down
           (cost-by (a .samples .now) (patternNumber (a .part .marks)) (c .cost-at .ensures .0) (w .wide .ensures .0)),
       c .cost-at .ensures .1,
     )

@@ -24,7 +24,7 @@ returns c =
     let l = t .turn .result in
     let far = cost-by (a .samples .now) (patternNumber (a .part .marks)) (c .before .cost-at .ensures .0) (w2 .wide2 .ensures .0) in
     let next : getD (a .table .now) (l + 1) 0 ≡ getD (a .table .now) l 0 + 1 = omega (arith, c .if1 .taken, w1 .wide .ensures .0, w2 .wide2 .ensures .0) in
-    let less = up-adjacent _ _ _ _ _ (s .pre .0) (a .table .now) (a .at) 0 (record { sound = s .pre .2; inside = omega arith; near = omega arith }) l (a .last) (s .pre .5) (t .turn .ensures) next in
+    let less = up-adjacent _ _ _ _ _ _ (s .pre .0) (a .table .now) (a .at) 0 (record { sound = s .pre .2; inside = omega arith; near = omega arith }) l (a .last) (s .pre .5) (t .turn .ensures) next in
     (record { l = l; turned = t .turn .ensures; better = inl (less, refl, far) }, c .before .cost-at .ensures .1)
 
 returns-2 : tie.Need-returns-2

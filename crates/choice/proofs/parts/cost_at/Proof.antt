@@ -1,22 +1,39 @@
--- `cost_at` meets its contract: the flipped sum and the counts give the cost.
+-- `cost_at` meets its contract: the sums and the counts give the cost.
 use native.Mathlib.Omega.{arith}
 use borrow.Author.Needs.{needs}
+use Prim.Native.Nat.{ℕ}
 use mathlib.Core.Bool.{true}
-use lib.ListN.{length}
+use mathlib.Core.Path.{_≡_, ap, _∙_}
+use lib.Bits.{bitAnd}
+use lib.ListN.{length, getD}
 use Rattle.pattern.specs.Words.{patternNumber}
 use Rattle.choice.specs.Cost.{sideCost}
-use Rattle.choice.proofs.BuildLaws.{Sums, sums-at}
+use Rattle.choice.specs.Layers.{layerAt, markedSum}
+use Rattle.choice.proofs.PartLaws.{Sums, sums-at, low-lt, low-fits}
 use Rattle.choice.proofs.parts.cost_at.Statement.{statement}
 use Rattle.choice.proofs.parts.cost_at.Tie as tie
 
+-- the part's samples below v
+lower : (c : tie.After-shared) → let a = c .before .before .before .before .args in patternNumber (c .shared .result) ≡ bitAnd (patternNumber (a .part .marks)) (layerAt (a .below .now) (a .v))
+lower c = c .shared .ensures ∙ ap (bitAnd (patternNumber (c .before .before .before .before .args .part .marks))) (c .before .below-at .ensures)
+
+sum-of-requires : tie.Need-sum-of-requires
+sum-of-requires c κs =
+    let s = c .before .before .before .before in
+    let q = s .pre .0 in
+    let v = s .args .v in
+    (q .layers .sums-at, q .layers .few, rw (lower c) (low-lt _ _ _ _ _ _ q v (s .pre .2)), rw (lower c) (low-fits _ _ _ _ _ _ q v (s .pre .2) (s .args .part .wide) (s .pre .1)))
+
 -- the sums at v
-facts : (c : tie.After-flipped-sum) →
-    let a = c .before .before .before .args in
-    Sums (a .v) (c .before .count-below .result) (a .part .size) (c .flipped-sum .result) (sideCost (length (a .samples .now)) (a .samples .now) (patternNumber (a .part .marks)) true (a .v))
+facts : (c : tie.After-sum-of) →
+    let a = c .before .before .before .before .before .args in
+    Sums (a .v) (c .before .before .before .count-below .result) (a .part .size) (c .sum-of .result) (a .part .sum) (sideCost (length (a .samples .now)) (a .samples .now) (patternNumber (a .part .marks)) true (a .v))
 facts c =
-    let k = c .before .before in
-    let s = k .before in
-    rw (c .before .count-below .ensures .0, c .flipped-sum .ensures) (sums-at _ _ _ _ _ (s .pre .0) (s .args .v) (s .pre .2) (λ i. k .shared-slice-known .given i .fits))
+    let g = c .before .before .before .before in
+    let s = g .before in
+    let o = s .args .samples .now in
+    let e = c .sum-of .ensures ∙ ap (λ (w : ℕ). markedSum (λ k. getD o k 0) w (length o)) (lower (c .before)) in
+    rw (c .before .before .before .count-below .ensures .0, e) (sums-at _ _ _ _ _ _ (s .pre .0) (s .args .v) (s .pre .2) (λ i. g .shared-slice-known .given i .fits))
 
 mul-result : tie.Need-mul-result
 mul-result c = omega (arith, facts c)
@@ -25,24 +42,24 @@ mul-result-2 : tie.Need-mul-result-2
 mul-result-2 c = omega (arith, facts c)
 
 add-result : tie.Need-add-result
-add-result c = omega (arith, facts c)
+add-result c = omega (arith, facts (c .before))
 
 mul-result-3 : tie.Need-mul-result-3
-mul-result-3 c = omega (arith, facts c)
+mul-result-3 c = omega (arith, facts (c .before))
 
 mul-result-4 : tie.Need-mul-result-4
-mul-result-4 c = omega (arith, facts (c .before))
+mul-result-4 c = omega (arith, facts (c .before .before))
 
 add-result-2 : tie.Need-add-result-2
-add-result-2 c = omega (arith, facts (c .before))
+add-result-2 c = omega (arith, facts (c .before .before))
 
 sub-result : tie.Need-sub-result
-sub-result c = omega (arith, facts (c .before))
+sub-result c = omega (arith, facts (c .before .before))
 
 returns : tie.Need-returns
-returns c = let s = facts (c .before) in (omega arith, omega arith)
+returns c = let s = facts (c .before .before) in (omega arith, omega arith)
 
 pub cost-at-spec : {M : Type 1} → statement M
 cost-at-spec =
-    tie.close (tie.spec (λ c. search needs) (λ c κs. search needs) (λ c κs. search needs) mul-result mul-result-2 add-result mul-result-3
-    mul-result-4 add-result-2 sub-result returns)
+    tie.close (tie.spec (λ c. search needs) (λ c κs. search needs) (λ c κs. search needs) (λ c κs. search needs) sum-of-requires mul-result
+    mul-result-2 add-result mul-result-3 mul-result-4 add-result-2 sub-result returns)

@@ -1,30 +1,30 @@
 -- `best_pattern` meets its contract: before turn p the first of least cost among the patterns 0 .. p - 1 is kept.
 use Prim.Native.Nat.{ℕ, _+_, _-_, _≤_}
-use mathlib.Core.Path.{_≡_, ap, _∙_}
+use mathlib.Core.Path.{_≡_, refl, ap, _∙_}
 use mathlib.Core.Bool.{cond}
-use mathlib.Core.Logic.{⊎-elim}
+use mathlib.Core.Logic.{inl, inr, ⊎-elim}
 use native.Mathlib.Omega.{arith}
 use borrow.Author.Needs.{needs}
 use lib.Dec.{ltb}
 use lib.ListN.{length}
-use Rattle.pattern.specs.Words.{patternsOf}
+use Rattle.pattern.specs.Words.{patternNumber, patternsOf}
 use Rattle.pattern.proofs.SizeLaws.{size-bounds, square-256}
 use Rattle.choice.specs.Case.{Case, caseOf}
 use Rattle.choice.proofs.AcceptLaws.{Accepted, accepted}
 use Rattle.choice.specs.Picked.{Prepared}
 use Rattle.choice.specs.Search.{triedAt, patternAt, triedTo}
-use Rattle.choice.proofs.TriedLaws.{tried-here, tried-first, tried-more, tried-few, tried-all-few}
-use Rattle.choice.proofs.SearchLaws.{sides-at, texture-judged, pattern-by, last-le, weighable, KeptSides, sides-one, sides-new, sides-old, sides-all}
+use Rattle.choice.proofs.TriedLaws.{tried-here, tried-none, tried-more, tried-few, tried-all-few}
+use Rattle.choice.proofs.SearchLaws.{sides-at, texture-judged, pattern-by, last-le, weighable, SidesSoFar, sides-new, sides-old, sides-all}
 use Rattle.choice.proofs.search.best_pattern.Statement.{statement}
 use Rattle.choice.proofs.search.best_pattern.Tie as tie
 
 abbrev Inv-loop : tie.InvT-loop
-Inv-loop n list count border original table reach texture below planes indices contour end at₀ best₀ tried₀ p₀ at best tried p =
+Inv-loop n list count border original table reach texture below sums indices contour end at₀ best₀ tried₀ p₀ at best tried p =
     let C = caseOf n (patternsOf n list) count border original table reach texture in
-    (1 ≤ p) × (p ≤ end) × (end ≤ 10000) × KeptSides C p at (best .trial0) (best .trial1) (best .cost) × (tried ≡ triedTo C p)
+    (p ≤ end) × (end ≤ 10000) × SidesSoFar C p at (best .trial0) (best .trial1) (best .cost) × (tried ≡ triedTo C p)
 
 abbrev μ-loop : tie.MeasureT-loop
-μ-loop n list count border original table reach texture below planes indices contour end at₀ best₀ tried₀ p₀ at best tried p = end - p
+μ-loop n list count border original table reach texture below sums indices contour end at₀ best₀ tried₀ p₀ at best tried p = end - p
 
 -- the case, and that it is not refused
 abbrev given : (c : tie.Start Inv-loop μ-loop) → Case
@@ -46,8 +46,8 @@ room c e = omega (arith, e, last-le (ltb 0 (length (c .args .texture .now))) (c 
 below-layers-requires : tie.Need-below-layers-requires Inv-loop μ-loop
 below-layers-requires c κs = few (c .before .before .before .before .before)
 
-bit-planes-requires : tie.Need-bit-planes-requires Inv-loop μ-loop
-bit-planes-requires c κs = few (c .before .before .before .before .before .before)
+eight-sums-requires : tie.Need-eight-sums-requires Inv-loop μ-loop
+eight-sums-requires c κs = few (c .before .before .before .before .before .before)
 
 case-indices-requires : tie.Need-case-indices-requires Inv-loop μ-loop
 case-indices-requires c κs =
@@ -57,10 +57,10 @@ case-indices-requires c κs =
 -- what is worked out once
 prepared : (c : tie.After-case-indices Inv-loop μ-loop) →
     let a = c .before .before .before .before .before .before .before .before .args in
-    Prepared (a .n) (a .border .now) (a .original .now) (a .table .now) (c .before .before .below-layers .result) (c .before .bit-planes .result) (c .case-indices .result)
+    Prepared (a .n) (a .border .now) (a .original .now) (a .table .now) (c .before .before .below-layers .result) (c .before .eight-sums .result) (c .case-indices .result)
 prepared c =
     record {
-      layers = record { few = few (c .before .before .before .before .before .before .before .before); below-at = c .before .before .below-layers .ensures; plane-at = c .before .bit-planes .ensures };
+      layers = record { few = few (c .before .before .before .before .before .before .before .before); below-at = c .before .before .below-layers .ensures; sums-at = c .before .eight-sums .ensures };
       index-at = c .case-indices .ensures;
     }
 
@@ -70,84 +70,71 @@ contour-or-none-requires c κs = let k = fine (c .before .before .before .before
 add-end : tie.Need-add-end Inv-loop μ-loop
 add-end c = omega (arith, room (c .before .before .before .before .before .before .before .before .before .before) (c .last-pattern .ensures))
 
-best-sides-requires : tie.Need-best-sides-requires Inv-loop μ-loop
-best-sides-requires c κs =
-    let a = c .before .before .before in
-    let s = a .before .before .before .before .before .before .before .before .before .before .before in
-    (weighable (given s) (fine s) 0 _ (pattern-by (given s) 0 (a .pattern-by .ensures) (a .before .before .contour-or-none .ensures)), prepared (a .before .before .before))
-
 loop-holds : tie.Need-loop-holds Inv-loop μ-loop
 loop-holds c =
-    let a = c .before .before .before .before in
-    let s = a .before .before .before .before .before .before .before .before .before .before .before in
-    let here = pattern-by (given s) 0 (a .pattern-by .ensures) (a .before .before .contour-or-none .ensures) in (
-      omega arith,
-      omega arith,
-      room s (a .before .last-pattern .ensures),
-      sides-one (given s) (sides-at (given s) 0 here (c .best-sides .ensures .0)),
-      tried-first (given s) (tried-here (given s) 0 here (c .best-sides .ensures .1)),
-    )
+    let s = c .before .before .before .before .before .before .before .before .before .before in
+    (omega arith, room s (c .last-pattern .ensures), inl (refl, refl), tried-none (given s))
 
-best-sides-requires-2 : tie.Need-best-sides-requires-2 Inv-loop μ-loop
-best-sides-requires-2 c κs =
+-- what stands before a turn of the loop
+abbrev start : tie.At-loop Inv-loop μ-loop → tie.Start Inv-loop μ-loop
+start l = l .before .before .before .before .before .before .before .before .before .before .before
+
+-- the pattern of the turn
+its-pattern :
+    (c : tie.After-pattern-by Inv-loop μ-loop)
+    → let l = c .before .before in patternNumber (c .pattern-by .result) ≡ patternAt (given (start l)) (l .loop .p)
+its-pattern c =
+    let l = c .before .before in
+    pattern-by (given (start l)) (l .loop .p) (c .pattern-by .ensures) (l .before .before .contour-or-none .ensures)
+
+best-sides-requires : tie.Need-best-sides-requires Inv-loop μ-loop
+best-sides-requires c κs =
     let b = c .before .before .before in
     let l = b .before .before in
-    let a = l .before .before .before .before .before in
-    let s = a .before .before .before .before .before .before .before .before .before .before .before in
-    (weighable (given s) (fine s) (l .loop .p) _ (pattern-by (given s) (l .loop .p) (b .pattern-by2 .ensures) (a .before .before .contour-or-none .ensures)), prepared (a .before .before .before))
+    (weighable (given (start l)) (fine (start l)) (l .loop .p) _ (its-pattern b), prepared (l .before .before .before))
 
--- how many are tried for the next pattern
+-- how many are tried for it
 tried-next :
-    (c : tie.After-best-sides2 Inv-loop μ-loop)
-    → let b = c .before .before .before .before in
-    let s = b .before .before .before .before .before .before .before .before .before .before .before .before .before .before .before .before .before .before in
-    c .best-sides2 .result .tried ≡ triedAt (given s) (patternAt (given s) (b .before .before .loop .p))
+    (c : tie.After-best-sides Inv-loop μ-loop)
+    → let l = c .before .before .before .before .before .before in
+    c .best-sides .result .tried ≡ triedAt (given (start l)) (patternAt (given (start l)) (l .loop .p))
 tried-next c =
     let b = c .before .before .before .before in
-    let a = b .before .before .before .before .before .before .before in
-    let s = a .before .before .before .before .before .before .before .before .before .before .before in
-    let l = b .before .before .loop in
-    tried-here (given s) (l .p) (pattern-by (given s) (l .p) (b .pattern-by2 .ensures) (a .before .before .contour-or-none .ensures)) (c .best-sides2 .ensures .1)
+    let l = b .before .before in
+    tried-here (given (start l)) (l .loop .p) (its-pattern b) (c .best-sides .ensures .1)
 
 add-tried : tie.Need-add-tried Inv-loop μ-loop
 add-tried c =
-    let b = c .before .before .before .before .before in
-    let l = b .before .before .loop in
-    let s = b .before .before .before .before .before .before .before .before .before .before .before .before .before .before .before .before .before .before in
-    let near = fine s .near in
-    omega (arith, l .inv .4, tried-all-few (given s) near (l .p), tried-next (c .before), tried-few (given s) near (patternAt (given s) (l .p)))
-
-add-p : tie.Need-add-p Inv-loop μ-loop
-add-p c = omega arith
+    let l = c .before .before .before .before .before .before .before in
+    let C = given (start l) in
+    let near = fine (start l) .near in
+    omega (arith, l .loop .inv .3, tried-all-few C near (l .loop .p), tried-next (c .before), tried-few C near (patternAt C (l .loop .p)))
 
 loop-again : tie.Need-loop-again Inv-loop μ-loop
 loop-again c =
     let n = c .before .before .before .before in
     let b = n .before .before .before .before in
-    let l = b .before .before .loop in
-    let a = b .before .before .before .before .before .before .before in
-    let s = a .before .before .before .before .before .before .before .before .before .before .before in
-    let next = sides-at (given s) (l .p) (pattern-by (given s) (l .p) (b .pattern-by2 .ensures) (a .before .before .contour-or-none .ensures)) (n .best-sides2 .ensures .0) in (
+    let l = b .before .before in
+    let C = given (start l) in
+    let inv = l .loop .inv in
+    let next = sides-at C (l .loop .p) (its-pattern b) (n .best-sides .ensures .0) in (
       omega arith,
-      omega arith,
-      l .inv .2,
+      inv .1,
       ⊎-elim
-          (λ w. rw (w .1, w .2) (sides-new (given s) (l .inv .3) next (w .0 .taken)))
-          (λ w. rw (w .1, w .2) (sides-old (given s) (l .inv .3) next (w .0 .left)))
+          (λ w. rw (w .1, w .2) (inr (sides-new C (inv .2) next (w .0 .taken))))
+          (λ w. rw (w .1, w .2) (inr (sides-old C (inv .2) next (omega (arith, n .best-sides .ensures .2)) (w .0 .left))))
           (c .if1 .came),
-      tried-more (given s) (l .p) (l .inv .4) (tried-next n),
+      tried-more C (l .loop .p) (inv .3) (tried-next n),
     )
 
 returns : tie.Need-returns Inv-loop μ-loop
 returns c =
-    let a = c .before .before .before .before .before .before in
-    let s = a .before .before .before .before .before .before .before .before .before .before .before in
-    let last = a .before .last-pattern in
-    let e : c .before .loop .p ≡ last .result + 1 = omega arith in
-    sides-all (given s) (c .before .loop .inv .3) (c .before .loop .inv .4) (e ∙ ap (λ (k : ℕ). k + 1) (last .ensures))
+    let l = c .before in
+    let last = l .before .last-pattern in
+    let e : l .loop .p ≡ last .result + 1 = omega arith in
+    sides-all (given (start l)) (l .loop .inv .2) (l .loop .inv .3) (e ∙ ap (λ (k : ℕ). k + 1) (last .ensures))
 
 pub best-pattern-spec : {M : Type 1} → statement M
 best-pattern-spec =
-    tie.close (tie.spec Inv-loop μ-loop below-layers-requires bit-planes-requires case-indices-requires contour-or-none-requires
-    (λ c κs. tt) add-end (λ c κs. tt) best-sides-requires loop-holds (λ c κs. tt) best-sides-requires-2 add-tried add-p (λ c. search needs)
-    loop-again returns)
+    tie.close (tie.spec Inv-loop μ-loop below-layers-requires eight-sums-requires case-indices-requires contour-or-none-requires
+    (λ c κs. tt) add-end loop-holds (λ c κs. tt) best-sides-requires add-tried (λ c. search needs) (λ c. search needs) loop-again returns)

@@ -12,7 +12,7 @@ use Rattle.choice.specs.Search.{trialCost}
 use Rattle.choice.specs.Trial.{TrialOf}
 use Rattle.choice.proofs.CaseLaws.{other-case}
 use Rattle.choice.proofs.LayerLaws.{fits-block}
-use Rattle.choice.proofs.WeighLaws.{word-small, size-le, parted-marked, parted-others, findable, trial-weighed}
+use Rattle.choice.proofs.WeighLaws.{word-small, others-small, size-le, parted-marked, parted-others, findable, trial-weighed}
 use Rattle.choice.proofs.TrialLaws.{trial-low}
 use Rattle.choice.proofs.SearchLaws.{both-sides, both-tried}
 use Rattle.choice.proofs.search.best_sides.Statement.{statement}
@@ -43,23 +43,41 @@ sub-size0 c =
     let s = z .before .before .before .before in
     size-le _ _ _ _ _ _ (s .pre .0) _ _ _ (s .pre .1) (bytes z) (c .size-of .ensures .0)
 
-best-of-part-requires : tie.Need-best-of-part-requires
-best-of-part-requires c κs =
+sum-of-requires : tie.Need-sum-of-requires
+sum-of-requires c κs =
     let z = c .before .before .before .before in
     let s = z .before .before .before .before in
+    let q = s .pre .1 in
+    let small = others-small _ _ _ _ _ _ (s .pre .0) _ _ _ q (bytes z) (c .others .ensures) in
+    (q .layers .sums-at, q .layers .few, small, fits-block _ _ (q .layers .few) small)
+
+sum-of-requires-2 : tie.Need-sum-of-requires-2
+sum-of-requires-2 c κs =
+    let z = c .before .before .before .before .before in
+    let s = z .before .before .before .before in
+    let q = s .pre .1 in
+    let small = word-small _ _ _ _ _ _ (s .pre .0) _ _ _ q (bytes z) in
+    (q .layers .sums-at, q .layers .few, small, fits-block _ _ (q .layers .few) small)
+
+best-of-part-requires : tie.Need-best-of-part-requires
+best-of-part-requires c κs =
+    let o = c .before .before in
+    let z = o .before .before .before .before in
+    let s = z .before .before .before .before in
     let k = z .side-case .ensures in
-    let part = parted-others _ _ _ _ _ _ (s .pre .0) _ _ _ (s .pre .1) (bytes z) (c .before .size-of .ensures .0) (c .others .ensures) in (
+    let part = parted-others _ _ _ _ _ _ (s .pre .0) _ _ _ (s .pre .1) (bytes z) (o .before .size-of .ensures .0) (o .others .ensures) (c .before .sum-of .ensures) in (
       part,
       fits-block _ _ (s .pre .1 .layers .few) (part .small),
-      findable _ _ _ _ _ _ (s .pre .0) _ _ _ (s .pre .1) (bytes z) false (k .0) (k .1) (c .others .ensures),
+      findable _ _ _ _ _ _ (s .pre .0) _ _ _ (s .pre .1) (bytes z) false (k .0) (k .1) (o .others .ensures),
     )
 
 best-of-part-requires-2 : tie.Need-best-of-part-requires-2
 best-of-part-requires-2 c κs =
-    let z = c .before .before .before .before .before in
+    let o = c .before .before .before in
+    let z = o .before .before .before .before in
     let s = z .before .before .before .before in
     let k = z .side-case .ensures in
-    let part = parted-marked _ _ _ _ _ _ (s .pre .0) _ _ _ (s .pre .1) (bytes z) (c .before .before .size-of .ensures .0) in (
+    let part = parted-marked _ _ _ _ _ _ (s .pre .0) _ _ _ (s .pre .1) (bytes z) (o .before .size-of .ensures .0) (c .before .sum-of2 .ensures) in (
       part,
       fits-block _ _ (s .pre .1 .layers .few) (part .small),
       findable _ _ _ _ _ _ (s .pre .0) _ _ _ (s .pre .1) (bytes z) true (other-case _ _ (k .0)) (omega arith) refl,
@@ -68,35 +86,38 @@ best-of-part-requires-2 c κs =
 -- the best offset of each partition
 unmarked :
     (c : tie.After-best-of-part)
-    → let a = c .before .before .before .before .before .before .before .before .before .args in
+    → let a = c .before .before .before .before .before .before .before .before .before .before .before .args in
     let t = c .best-of-part .result in
     TrialOf (trialCost (blockCase (a .n) (a .border .now) (a .original .now) (a .table .now) (a .reach)) (patternNumber (a .p)) false) (2 * a .reach) (t .number) (t .cost)
 unmarked c =
-    let z = c .before .before .before .before .before in
+    let o = c .before .before .before in
+    let z = o .before .before .before .before in
     let s = z .before .before .before .before in
     let k = z .side-case .ensures in
-    trial-weighed _ _ _ _ _ _ (s .pre .0) _ _ _ (s .pre .1) (bytes z) false (k .0) (k .1) (c .before .others .ensures) (c .best-of-part .ensures .0)
+    trial-weighed _ _ _ _ _ _ (s .pre .0) _ _ _ (s .pre .1) (bytes z) false (k .0) (k .1) (o .others .ensures) (c .best-of-part .ensures .0)
 
 marked :
     (c : tie.After-best-of-part2)
-    → let a = c .before .before .before .before .before .before .before .before .before .before .args in
+    → let a = c .before .before .before .before .before .before .before .before .before .before .before .before .args in
     let t = c .best-of-part2 .result in
     TrialOf (trialCost (blockCase (a .n) (a .border .now) (a .original .now) (a .table .now) (a .reach)) (patternNumber (a .p)) true) (2 * a .reach) (t .number) (t .cost)
 marked c =
-    let z = c .before .before .before .before .before .before in
+    let z = c .before .before .before .before .before .before .before .before in
     let s = z .before .before .before .before in
     let k = z .side-case .ensures in
     trial-weighed _ _ _ _ _ _ (s .pre .0) _ _ _ (s .pre .1) (bytes z) true (other-case _ _ (k .0)) (omega arith) refl (c .best-of-part2 .ensures .0)
 
 tried-by-requires : tie.Need-tried-by-requires
 tried-by-requires c κs =
-    let s : tie.Start = search needs in
-    (omega (arith, trial-low (c .before .before .before .best-of-part .ensures .0), s .pre .0 .near), s .pre .0 .near)
+    let t = c .before .before .before in
+    let near = t .before .before .before .before .before .before .before .before .before .before .before .pre .0 .near in
+    (omega (arith, trial-low (t .best-of-part .ensures .0), near), near)
 
 tried-by-requires-2 : tie.Need-tried-by-requires-2
 tried-by-requires-2 c κs =
-    let s : tie.Start = search needs in
-    (omega (arith, trial-low (c .before .before .before .best-of-part2 .ensures .0), s .pre .0 .near), s .pre .0 .near)
+    let t = c .before .before .before in
+    let near = t .before .before .before .before .before .before .before .before .before .before .before .before .pre .0 .near in
+    (omega (arith, trial-low (t .best-of-part2 .ensures .0), near), near)
 
 returns : tie.Need-returns
 returns c =
@@ -105,10 +126,11 @@ returns c =
     let p = q .before in (
       both-sides _ _ (unmarked p) (marked q),
       both-tried _ _ (unmarked p) (marked q) (t .tried-by .ensures .0) (c .tried-by2 .ensures .0),
+      omega (arith, p .best-of-part .ensures .1, q .best-of-part2 .ensures .1),
     )
 
 pub best-sides-spec : {M : Type 1} → statement M
 best-sides-spec =
     tie.close (tie.spec side-case-requires (λ c. search needs) (λ c. search needs) (λ c. search needs) (λ c. search needs) (λ c. search needs)
-    size-of-requires cast-size0 sub-size0 (λ c κs. tt) best-of-part-requires best-of-part-requires-2 (λ c. search needs)
+    size-of-requires cast-size0 sub-size0 (λ c κs. tt) sum-of-requires sum-of-requires-2 best-of-part-requires best-of-part-requires-2 (λ c. search needs)
     tried-by-requires tried-by-requires-2 (λ c. search needs) returns)
