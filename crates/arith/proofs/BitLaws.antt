@@ -8,7 +8,7 @@ use native.Mathlib.Omega.{arith}
 use lib.Arith.{lt-one, bin-ind}
 use lib.Count.{ones, ones-step}
 use lib.Dec.{eqb}
-use lib.Pow.{pow-pos, pow-add, pow-mono, pow-lt, high-ones, high, mod-pow-add, shr-shr}
+use lib.Pow.{pow-pos, pow-add, pow-mono, pow-lt, high-ones, high, mod-pow-add, shr-lt, shr-shr, split}
 use Rattle.arith.specs.Bits.{bit, bits, testBit}
 use Rattle.arith.specs.Sum.{sumTo}
 use Rattle.arith.proofs.Sums.{sum-ext, sum-front}
@@ -125,6 +125,17 @@ pub high-bit : (m h low k : ℕ) → low < 2 ^ m → m ≤ k → testBit (h * 2 
 high-bit m h low k l le =
     ap (λ (j : ℕ). eqb ((h * 2 ^ m + low) / 2 ^ j % 2) 1) (sym (add-sub-of-le le))
     ∙ ap (λ (x : ℕ). eqb (x % 2) 1) (sym (shr-shr (h * 2 ^ m + low) m (k - m)) ∙ ap (λ (x : ℕ). x / 2 ^ (k - m)) (high h m l))
+
+-- bit j of the b bits from a on
+pub field-bit : (w a b j : ℕ) → j < b → testBit (w / 2 ^ a % 2 ^ b) j ≡ testBit w (a + j)
+field-bit w a b j h =
+    sym (low-bit b (w / 2 ^ a / 2 ^ b) (w / 2 ^ a % 2 ^ b) j h)
+    ∙ ap (λ (x : ℕ). testBit x j) (split (w / 2 ^ a) b)
+    ∙ ap (λ (x : ℕ). eqb (x % 2) 1) (shr-shr w a j)
+
+-- the bits from a on of a number of c bits
+pub rest-lt : (w c a : ℕ) → w < 2 ^ c → w / 2 ^ a < 2 ^ (c - a)
+rest-lt w c a h = shr-lt (c - a) a (lt-of-lt-of-le h (pow-mono {i = c} {j = c - a + a} (omega arith)))
 
 -- ---- a run of ones
 

@@ -6,8 +6,8 @@ use mathlib.Core.List.{List}
 use native.Mathlib.Nat.{lt-of-le-of-lt, lt-of-lt-of-le}
 use native.Mathlib.Decide.{decLt}
 use native.Mathlib.Omega.{arith}
-use lib.Bits.{bitAnd, bitXor, differ, and-shr, and-step, and-le-l, and-lt, and-block, xor-shr, xor-step, xor-block}
-use lib.Count.{ones, ones-le}
+use lib.Bits.{bitAnd, bitXor, differ, and-shr, and-step, and-le-l, and-block, xor-shr, xor-step, xor-block}
+use lib.Count.{ones}
 use lib.Dec.{eqb, ltb}
 use lib.ListN.{getD}
 use lib.Pow.{pow-mono}
@@ -17,7 +17,6 @@ use Rattle.arith.specs.Sum.{sumTo}
 use Rattle.arith.proofs.BitLaws.{bits-at, ones-bits}
 use Rattle.arith.proofs.Sums.{sum-ext}
 use Rattle.pattern.specs.Words.{joined, fourWords}
-use Rattle.pattern.proofs.WordLaws.{four-ones, first-word}
 use Rattle.choice.specs.Tally.{sideCount, sideSize, sideBelow}
 use Rattle.choice.specs.Layers.{belowWord, Fits}
 
@@ -104,27 +103,6 @@ pub four-and :
     → fourWords (bitAnd a a′) (bitAnd b b′) (bitAnd c c′) (bitAnd d d′) ≡ bitAnd (fourWords a b c d) (fourWords a′ b′ c′ d′)
 four-and a b c d a′ b′ c′ d′ p q r p′ q′ r′ = sym (by-words bitAnd and-block a b c d a′ b′ c′ d′ p q r p′ q′ r′)
 
--- how many these are: in four words, and where the first pattern has one word
-pub four-common :
-    (a b c d a′ b′ c′ d′ : ℕ) → a < 2 ^ 64 → b < 2 ^ 64 → c < 2 ^ 64 → a′ < 2 ^ 64 → b′ < 2 ^ 64 → c′ < 2 ^ 64
-    → ones (bitAnd d d′) + ones (bitAnd c c′) + ones (bitAnd b b′) + ones (bitAnd a a′) ≡ ones (bitAnd (fourWords a b c d) (fourWords a′ b′ c′ d′))
-four-common a b c d a′ b′ c′ d′ p q r p′ q′ r′ =
-    sym (four-ones (bitAnd a a′) (bitAnd b b′) (bitAnd c c′) (bitAnd d d′) (and-lt 64 a a′ p p′) (and-lt 64 b b′ q q′) (and-lt 64 c c′ r r′))
-    ∙ ap ones (four-and a b c d a′ b′ c′ d′ p q r p′ q′ r′)
-
-and-narrow : (h a b : ℕ) → a < 2 ^ 64 → b < 2 ^ 64 → bitAnd a (joined h b) ≡ bitAnd a b
-and-narrow h a b p q =
-    ap (λ (x : ℕ). bitAnd x (joined h b)) (let e : a ≡ joined 0 a = omega arith in e)
-    ∙ and-block 64 0 h a b p q
-    ∙ (let z : bitAnd 0 h ≤ 0 = and-le-l 0 h in let e : joined (bitAnd 0 h) (bitAnd a b) ≡ bitAnd a b = omega arith in e)
-
-pub one-common :
-    (a b c d a′ b′ c′ d′ : ℕ) → a < 2 ^ 64 → a′ < 2 ^ 64 → fourWords a b c d < 2 ^ 64
-    → ones (bitAnd a a′) ≡ ones (bitAnd (fourWords a b c d) (fourWords a′ b′ c′ d′))
-unfolding fourWords
-one-common a b c d a′ b′ c′ d′ p p′ h =
-    ap ones (sym (and-narrow (joined (joined d′ c′) b′) a a′ p p′) ∙ ap (λ (x : ℕ). bitAnd x (fourWords a′ b′ c′ d′)) (sym (first-word a b c d p h)))
-
 -- a pattern of at most 64 samples fits in one word
 pub fits-block : (c w : ℕ) → c ≤ 256 → w < 2 ^ c → Fits (ltb 64 c) w
 fits-block c w few small = go (decLt 64 c)
@@ -132,10 +110,6 @@ fits-block c w few small = go (decLt 64 c)
     go : Dec (64 < c) → Fits (ltb 64 c) w
     go (yes h) = rw (lt-ltb 64 c h) (lt-of-lt-of-le small (pow-mono few))
     go (no h) = rw (le-ltb 64 c (omega arith)) (lt-of-lt-of-le small (pow-mono {i = c} {j = 64} (omega arith)))
-
--- a word shares at most 64 samples with another
-pub common-le : (a b : ℕ) → a < 2 ^ 64 → b < 2 ^ 64 → ones (bitAnd a b) ≤ 64
-common-le a b p q = ones-le 64 (bitAnd a b) (and-lt 64 a b p q)
 
 and-true : (b : Bool) → b ≡ (b && true)
 and-true true = refl

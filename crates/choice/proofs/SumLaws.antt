@@ -10,12 +10,12 @@ use native.Mathlib.Decide.{decLt, ℕ-discrete}
 use native.Mathlib.Omega.{arith}
 use lib.Dec.{eqb}
 use lib.ListN.{length, getD, set, replicate, length-set, getD-replicate}
-use lib.Pow.{pow-mono, shr-lt, shr-shr, split, high}
+use lib.Pow.{pow-mono, high}
 use lib.Seq.{getD-set-same, getD-set-other}
 use borrow.Author.Tests.{eq-eqb, ne-eqb, eqb-true}
 use Rattle.arith.specs.Bits.{bit, bits, testBit}
 use Rattle.arith.specs.Sum.{sumTo}
-use Rattle.arith.proofs.BitLaws.{shifted-one, low-bit, high-bit, bit-past, zero-bit}
+use Rattle.arith.proofs.BitLaws.{shifted-one, low-bit, high-bit, field-bit, rest-lt, bit-past, zero-bit}
 use Rattle.arith.proofs.Sums.{sum-ext, sum-add, sum-le, sum-none, sum-append, sum-rows, sum-one}
 use Rattle.pattern.specs.Words.{joined, fourWords}
 use Rattle.pattern.proofs.WordLaws.{first-word}
@@ -27,6 +27,7 @@ term-le : (b : Bool) (x m : ℕ) → x ≤ m → cond b x 0 ≤ m
 term-le true x m h = h
 term-le false x m h = omega arith
 
+-- equal terms
 pub marked-same : (f g : ℕ → ℕ) (w c : ℕ) → ((k : ℕ) → f k ≡ g k) → markedSum f w c ≡ markedSum g w c
 unfolding markedSum
 marked-same f g w c e = sum-ext _ _ c (λ k _. ap (λ (x : ℕ). cond (testBit w k) x 0) (e k))
@@ -37,6 +38,7 @@ module _ (f : ℕ → ℕ) where
   unfolding markedSum
   marked-le w m c h = sum-le _ m c (λ k l. term-le (testBit w k) (f k) m (h k))
 
+  -- no bits
   pub marked-zero : (c : ℕ) → markedSum f 0 c ≡ 0
   unfolding markedSum
   marked-zero c = sum-ext _ (λ _. 0) c (λ k l. ap (λ (b : Bool). cond b (f k) 0) (zero-bit k)) ∙ sum-none c
@@ -193,27 +195,16 @@ module _ (samples : List ℕ) where
           go r b hr hb h (yes e) = let d : k + 1 - 8 * r₀ ≡ j₀ + 1 = omega arith in rw e (own-sums b (rw (e, d) at h))
           go r b hr hb h (no n) = other-sums r b hr hb n h
 
--- ---- words
-
--- the b bits from a on
-slice-bit : (w a b j : ℕ) → j < b → testBit (w / 2 ^ a % 2 ^ b) j ≡ testBit w (a + j)
-slice-bit w a b j h =
-    sym (low-bit b (w / 2 ^ a / 2 ^ b) (w / 2 ^ a % 2 ^ b) j h)
-    ∙ ap (λ (x : ℕ). testBit x j) (split (w / 2 ^ a) b)
-    ∙ ap (λ (x : ℕ). eqb (x % 2) 1) (shr-shr w a j)
-
--- what is left of a number below a power
-left-lt : (w c a : ℕ) → w < 2 ^ c → w / 2 ^ a < 2 ^ (c - a)
-left-lt w c a h = shr-lt (c - a) a (lt-of-lt-of-le h (pow-mono {i = c} {j = c - a + a} (omega arith)))
+-- ---- word by word
 
 -- the two parts of a number below a power
 high-lt : (h l c : ℕ) → l < 2 ^ 64 → joined h l < 2 ^ c → h < 2 ^ (c - 64)
-high-lt h l c p small = rw (high h 64 p) at (left-lt (joined h l) c 64 small)
+high-lt h l c p small = rw (high h 64 p) at (rest-lt (joined h l) c 64 small)
 
 first-lt : (h l c : ℕ) → joined h l < 2 ^ c → l < 2 ^ c
 first-lt h l c small = lt-of-le-of-lt (let e : l ≤ joined h l = omega arith in e) small
 
--- byte by byte
+-- byte by byte, as a loop adds them up
 pub bytes-none : (sums : List ℕ) (i w : ℕ) → 0 ≡ bytesSum sums i w 0
 unfolding sumTo
 bytes-none sums i w = refl
@@ -224,6 +215,7 @@ pub bytes-more :
 unfolding sumTo
 bytes-more sums i w k e q = ap₂ _+_ e q ∙ ap (bytesSum sums i w) (sym (add-one k))
 
+-- the bits of a word, byte by byte
 module _ (f : ℕ → ℕ) (w : ℕ) where
   marked-bytes : markedSum f w 64 ≡ sumTo (λ k. markedSum (λ j. f (k * 8 + j)) (w / 2 ^ (8 * k) % 256) 8) 8
   unfolding markedSum
@@ -234,7 +226,7 @@ module _ (f : ℕ → ℕ) (w : ℕ) where
       sum-ext _ _ 8
       (λ j h.
       let e : k * 8 + j ≡ 8 * k + j = omega arith in
-      ap (λ (b : Bool). cond b (f (k * 8 + j)) 0) (ap (testBit w) e ∙ sym (slice-bit w (8 * k) 8 j h))))
+      ap (λ (b : Bool). cond b (f (k * 8 + j)) 0) (ap (testBit w) e ∙ sym (field-bit w (8 * k) 8 j h))))
 
 module _ (samples sums : List ℕ) (q : EightSums (length samples) samples sums) where
   abbrev s : ℕ → ℕ
@@ -243,19 +235,17 @@ module _ (samples sums : List ℕ) (q : EightSums (length samples) samples sums)
   abbrev c : ℕ
   c = length samples
 
+  -- the sums give that of the samples which a word marks
   pub word-marked : (i w : ℕ) → i < 4 → w < 2 ^ (c - 64 * i) → bytesSum sums i w 8 ≡ markedSum (λ m. s (64 * i + m)) w 64
   word-marked i w hi small =
       sum-ext _ _ 8
       (λ k h.
       let b = w / 2 ^ (8 * k) % 256 in
       let d : c - 64 * i - 8 * k ≡ c - 8 * (8 * i + k) = omega arith in
-      let l : w / 2 ^ (8 * k) < 2 ^ (c - 8 * (8 * i + k)) = rw d at (left-lt w (c - 64 * i) (8 * k) small) in
+      let l : w / 2 ^ (8 * k) < 2 ^ (c - 8 * (8 * i + k)) = rw d at (rest-lt w (c - 64 * i) (8 * k) small) in
       q .1 (8 * i + k) b (omega arith) (omega arith) (lt-of-le-of-lt (mod-le (w / 2 ^ (8 * k)) 256) l)
-      ∙ same (λ j. s (8 * (8 * i + k) + j)) (λ j. s (64 * i + (k * 8 + j))) b (λ j. ap s (let e : 8 * (8 * i + k) + j ≡ 64 * i + (k * 8 + j) = omega arith in e)))
+      ∙ marked-same (λ j. s (8 * (8 * i + k) + j)) (λ j. s (64 * i + (k * 8 + j))) b 8 (λ j. ap s (let e : 8 * (8 * i + k) + j ≡ 64 * i + (k * 8 + j) = omega arith in e)))
       ∙ sym (marked-bytes (λ m. s (64 * i + m)) w)
-    where
-      same : (f g : ℕ → ℕ) (b : ℕ) → ((j : ℕ) → f j ≡ g j) → markedSum f b 8 ≡ markedSum g b 8
-      same f g b e = marked-same f g b 8 e
 
   -- a pattern of one word, and of four
   pub one-marked :

@@ -14,21 +14,7 @@ use crate::sums::SUMS;
 use crate::sums::sum_of;
 use pattern::Pattern;
 
-// How many samples of a part are in a layer. A part that is not wide has one word.
-fn common(p: Pattern, layer: Pattern, wide: bool) -> u32
-    requires { ⌜ Fits wide (patternNumber p) ⌝ }
-    ensures { λ r. ⌜ (r ≡ ones (bitAnd (patternNumber p) (patternNumber layer))) × (r ≤ greatestSamples) ⌝ }
-{
-    let first = u64::count_ones(p.w0 & layer.w0);
-    if wide {
-        let second = u64::count_ones(p.w1 & layer.w1);
-        let third = u64::count_ones(p.w2 & layer.w2);
-        return u64::count_ones(p.w3 & layer.w3) + third + second + first;
-    }
-    first
-}
-
-// How many samples a part has.
+// How many samples a part has. One that is not wide has one word.
 pub(crate) fn size_of(p: Pattern, wide: bool) -> u32
     requires { ⌜ Fits wide (patternNumber p) ⌝ }
     ensures { λ r. ⌜ (r ≡ ones (patternNumber p)) × (r ≤ greatestSamples) ⌝ }
@@ -53,27 +39,17 @@ fn below_at(below: &[u64; LAYER_WORDS], v: usize) -> Pattern
     }
 }
 
-// The samples that are in both of two layers.
-fn shared(p: Pattern, q: Pattern) -> Pattern
-    ensures { λ r. ⌜ patternNumber r ≡ bitAnd (patternNumber p) (patternNumber q) ⌝ }
+// The samples of a pattern that are below v.
+fn lower(below: &[u64; LAYER_WORDS], p: Pattern, v: usize) -> Pattern
+    requires { ⌜ v < 257 ⌝ }
+    ensures { λ r. ⌜ patternNumber r ≡ bitAnd (patternNumber p) (layerAt (now (below .entry)) v) ⌝ }
 {
+    let layer = below_at(below, v);
     Pattern {
-        w0: p.w0 & q.w0,
-        w1: p.w1 & q.w1,
-        w2: p.w2 & q.w2,
-        w3: p.w3 & q.w3,
-    }
-}
-
-// The samples that are in one of two layers alone.
-fn inverted(p: Pattern, q: Pattern) -> Pattern
-    ensures { λ r. ⌜ patternNumber r ≡ bitXor (patternNumber p) (patternNumber q) ⌝ }
-{
-    Pattern {
-        w0: p.w0 ^ q.w0,
-        w1: p.w1 ^ q.w1,
-        w2: p.w2 ^ q.w2,
-        w3: p.w3 ^ q.w3,
+        w0: p.w0 & layer.w0,
+        w1: p.w1 & layer.w1,
+        w2: p.w2 & layer.w2,
+        w3: p.w3 & layer.w3,
     }
 }
 
@@ -90,10 +66,10 @@ pub(crate) fn count_below(below: &[u64; LAYER_WORDS], part: Part, v: usize) -> u
     requires { ⌜ Fits (part .wide) (patternNumber (part .marks)) × (v < 257) ⌝ }
     ensures { λ r. ⌜ (r ≡ ones (bitAnd (patternNumber (part .marks)) (layerAt (now (below .entry)) v))) × (r ≤ greatestSamples) ⌝ }
 {
-    common(part.marks, below_at(below, v), part.wide)
+    size_of(lower(below, part.marks, v), part.wide)
 }
 
-// What a part costs where all of its samples are predicted as v: those below v count twice less, and v twice more.
+// What a part costs where all of its samples are predicted as v: one below v costs v less the sample, any other the sample less v.
 pub(crate) fn cost_at(
     samples: &[u8],
     below: &[u64; LAYER_WORDS],
@@ -108,19 +84,21 @@ pub(crate) fn cost_at(
         × (r ≤ 65280) ⌝ }
 {
     let value = v as u32;
-    let count = count_below(below, part, v);
-    let lower = sum_of(
-        samples,
-        sums,
-        shared(part.marks, below_at(below, v)),
-        part.wide,
-    );
-    part.sum + 2 * (value * count) - (2 * lower + value * part.size)
+    let marks = lower(below, part.marks, v);
+    let count = size_of(marks, part.wide);
+    let sum = sum_of(samples, sums, marks, part.wide);
+    part.sum + 2 * (value * count) - (2 * sum + value * part.size)
 }
 
 // The samples of the block that a pattern does not mark.
 pub(crate) fn others(below: &[u64; LAYER_WORDS], p: Pattern) -> Pattern
     ensures { λ r. ⌜ patternNumber r ≡ bitXor (layerAt (now (below .entry)) 256) (patternNumber p) ⌝ }
 {
-    inverted(below_at(below, 256), p)
+    let all = below_at(below, 256);
+    Pattern {
+        w0: all.w0 ^ p.w0,
+        w1: all.w1 ^ p.w1,
+        w2: all.w2 ^ p.w2,
+        w3: all.w3 ^ p.w3,
+    }
 }

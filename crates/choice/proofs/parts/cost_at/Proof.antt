@@ -3,37 +3,41 @@ use native.Mathlib.Omega.{arith}
 use borrow.Author.Needs.{needs}
 use Prim.Native.Nat.{ℕ}
 use mathlib.Core.Bool.{true}
-use mathlib.Core.Path.{_≡_, ap, _∙_}
-use lib.Bits.{bitAnd}
+use mathlib.Core.Path.{ap, _∙_}
+use lib.Count.{ones}
 use lib.ListN.{length, getD}
 use Rattle.pattern.specs.Words.{patternNumber}
 use Rattle.choice.specs.Cost.{sideCost}
-use Rattle.choice.specs.Layers.{layerAt, markedSum}
+use Rattle.choice.specs.Layers.{markedSum}
 use Rattle.choice.proofs.PartLaws.{Sums, sums-at, low-lt, low-fits}
 use Rattle.choice.proofs.parts.cost_at.Statement.{statement}
 use Rattle.choice.proofs.parts.cost_at.Tie as tie
 
--- the part's samples below v
-lower : (c : tie.After-shared) → let a = c .before .before .before .before .args in patternNumber (c .shared .result) ≡ bitAnd (patternNumber (a .part .marks)) (layerAt (a .below .now) (a .v))
-lower c = c .shared .ensures ∙ ap (bitAnd (patternNumber (c .before .before .before .before .args .part .marks))) (c .before .below-at .ensures)
+-- the part's samples below v are at most its own
+size-of-requires : tie.Need-size-of-requires
+size-of-requires c κs =
+    let s = c .before .before in
+    rw (c .lower .ensures) (low-fits _ _ _ _ _ _ (s .pre .0) (s .args .v) (s .pre .2) (s .args .part .wide) (s .pre .1))
 
 sum-of-requires : tie.Need-sum-of-requires
 sum-of-requires c κs =
-    let s = c .before .before .before .before in
+    let s = c .before .before .before in
     let q = s .pre .0 in
     let v = s .args .v in
-    (q .layers .sums-at, q .layers .few, rw (lower c) (low-lt _ _ _ _ _ _ q v (s .pre .2)), rw (lower c) (low-fits _ _ _ _ _ _ q v (s .pre .2) (s .args .part .wide) (s .pre .1)))
+    let e = c .before .lower .ensures in
+    (q .layers .sums-at, q .layers .few, rw e (low-lt _ _ _ _ _ _ q v (s .pre .2)), rw e (low-fits _ _ _ _ _ _ q v (s .pre .2) (s .args .part .wide) (s .pre .1)))
 
 -- the sums at v
 facts : (c : tie.After-sum-of) →
-    let a = c .before .before .before .before .before .args in
-    Sums (a .v) (c .before .before .before .count-below .result) (a .part .size) (c .sum-of .result) (a .part .sum) (sideCost (length (a .samples .now)) (a .samples .now) (patternNumber (a .part .marks)) true (a .v))
+    let a = c .before .before .before .before .args in
+    Sums (a .v) (c .before .size-of .result) (a .part .size) (c .sum-of .result) (a .part .sum) (sideCost (length (a .samples .now)) (a .samples .now) (patternNumber (a .part .marks)) true (a .v))
 facts c =
-    let g = c .before .before .before .before in
+    let g = c .before .before .before in
     let s = g .before in
     let o = s .args .samples .now in
-    let e = c .sum-of .ensures ∙ ap (λ (w : ℕ). markedSum (λ k. getD o k 0) w (length o)) (lower (c .before)) in
-    rw (c .before .before .before .count-below .ensures .0, e) (sums-at _ _ _ _ _ _ (s .pre .0) (s .args .v) (s .pre .2) (λ i. g .shared-slice-known .given i .fits))
+    let e = c .before .before .lower .ensures in
+    rw (c .before .size-of .ensures .0 ∙ ap ones e, c .sum-of .ensures ∙ ap (λ (w : ℕ). markedSum (λ k. getD o k 0) w (length o)) e)
+    (sums-at _ _ _ _ _ _ (s .pre .0) (s .args .v) (s .pre .2) (λ i. g .shared-slice-known .given i .fits))
 
 mul-result : tie.Need-mul-result
 mul-result c = omega (arith, facts c)
@@ -61,5 +65,5 @@ returns c = let s = facts (c .before .before) in (omega arith, omega arith)
 
 pub cost-at-spec : {M : Type 1} → statement M
 cost-at-spec =
-    tie.close (tie.spec (λ c. search needs) (λ c κs. search needs) (λ c κs. search needs) (λ c κs. search needs) sum-of-requires mul-result
+    tie.close (tie.spec (λ c. search needs) (λ c κs. search needs) size-of-requires sum-of-requires mul-result
     mul-result-2 add-result mul-result-3 mul-result-4 add-result-2 sub-result returns)
