@@ -1,61 +1,26 @@
 /* Times the bench beside plain C, and beside its own method in C, in one run and prints the ratios. Answers are compared on every block
    that two of them see. */
 #include <stdio.h>
-#include <stdlib.h>
 #include <string.h>
-#include <time.h>
 
-#include "depth_bench.h"
-#include "inputs.h"
+#include "blocks.h"
 
-/* The plain loops and the bench's method, compiled at -O2 or -O3. */
-#define CHOOSE(name) \
-    depth_bench_choice name(size_t, const uint64_t *, size_t, const uint8_t *, const uint8_t *, const uint8_t *, size_t, uint32_t, \
-        const uint8_t *);
+/* The plain loops, compiled at -O2 and at -O3. */
 #define PLAIN(level) \
     void plain_predict_##level(size_t, const uint64_t *, const uint8_t *, const uint8_t *, size_t, int32_t, int32_t, uint8_t *); \
     size_t plain_list_##level(size_t, uint64_t *); \
-    CHOOSE(plain_choose_##level)
+    depth_bench_choice plain_choose_##level(size_t, const uint64_t *, size_t, const uint8_t *, const uint8_t *, const uint8_t *, size_t, \
+        uint32_t, const uint8_t *);
 PLAIN(O2)
 PLAIN(O3)
-CHOOSE(fast_choose)
-size_t fast_list(size_t, uint64_t *);
 
-/* The choice with the list lent, of libfile_calls.a. */
-depth_bench_choice file_calls_choose(size_t n, const uint64_t *list, size_t list_len, size_t count, const uint8_t *border,
-    size_t border_len, const uint8_t *original, size_t original_len, const uint8_t *table, size_t table_len, uint32_t reach,
-    const uint8_t *texture, size_t texture_len);
-
-enum { BLOCKS = 64, LIST = 14160, BENCH = 0, PLAIN2 = 1, PLAIN3 = 2, SAME = 3 };
-static slice borders[BLOCKS], originals[BLOCKS], textures[BLOCKS], table;
-static uint64_t list[LIST];
-static size_t count;
+enum { BENCH = 0, PLAIN2 = 1, PLAIN3 = 2, SAME = 3 };
 static uint8_t out[256];
 static uint64_t check;
 
 /* The plain loops take few blocks and rounds, at n = 16 a single block and two rounds: a choice of theirs takes a second there. */
 static int plain_blocks(size_t n) { return n == 16 ? 1 : 2; }
 static int plain_rounds(size_t n) { return n == 16 ? 2 : 6; }
-
-/* The words of the list that is lent for n. */
-static size_t list_words(size_t n) { return (4 * n - 4) * (4 * n - 5) * (n == 16 ? 4 : 1); }
-
-static double now(void) {
-    struct timespec t;
-    clock_gettime(CLOCK_MONOTONIC, &t);
-    return (double)t.tv_sec + 1e-9 * (double)t.tv_nsec;
-}
-
-static void inputs(size_t n, size_t values) {
-    for (int i = 0; i < BLOCKS; i++) {
-        fill_near(&borders[i], 4 * n, 128, 100);
-        fill_near(&originals[i], n * n, 128, 100);
-        fill_near(&textures[i], n * n, 128, 100);
-    }
-    fill_near(&table, values, 0, 0);
-    for (size_t i = 0; i < values; i++) start_of(&table)[i] = (uint8_t)((2 * i + 1) * 256 / (2 * values));
-    count = plain_list_O2(n, list);
-}
 
 /* A choice for block i, with the list lent or with the list built for it. */
 static depth_bench_choice choose_with(int who, int built, size_t n, uint32_t reach, int i) {
@@ -177,16 +142,14 @@ static double checks_time(int built, size_t n) {
 
 /* A table of all sizes, table lengths and reaches; whether all answers agree. */
 static int choices(int built) {
-    static const size_t counts[] = { 1, 3, 32, 256 };
-    static const uint32_t reaches[] = { 0, 5, 255 };
     printf("| choose, the list %s | reach 0 | reach 5 | reach 255 |\n|---|---|---|---|\n", built ? "built" : "lent");
-    for (size_t n = 4; n <= 16; n *= 2) for (int c = 0; c < 4; c++) {
-        printf("| n = %zu, %zu value%s |", n, counts[c], counts[c] == 1 ? "" : "s");
-        inputs(n, counts[c]);
-        for (int r = 0; r < 3; r++) {
+    for (size_t n = 4; n <= 16; n *= 2) for (int v = 0; v < VALUES; v++) {
+        printf("| n = %zu, %zu value%s |", n, values_of[v], values_of[v] == 1 ? "" : "s");
+        inputs(n, values_of[v]);
+        for (int r = 0; r < REACHES; r++) {
             double mean[4];
-            if (!agree(n, reaches[r])) { printf("\nanswers differ\n"); return 0; }
-            choice_times(built, n, reaches[r], mean);
+            if (!agree(n, reach_of[r])) { printf("\nanswers differ\n"); return 0; }
+            choice_times(built, n, reach_of[r], mean);
             printf(" %.1f (%.4f, %.4f, %.2f) |", 1e6 * mean[BENCH], mean[BENCH] / mean[PLAIN2], mean[BENCH] / mean[PLAIN3],
                 mean[BENCH] / mean[SAME]);
         }

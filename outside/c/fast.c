@@ -1,8 +1,8 @@
 /* The edge list and the choice by the bench's own method, in C, to compare speeds with; for sound input only. A choice, once a block: the
    index of the depth in each of the eight cases, the pattern of the samples below each value, and for each eight samples the sums by the
-   byte that marks them. A side's cost is convex in the value, so the turn along the table is found by halving, and the best level is
-   there or one step further; how many offsets a trial one by one takes follows from the best. The list: the marks of a row are a prefix or
-   a suffix of it, and an equal entry is looked for among those with as many marks. Each is compiled for patterns of one word and of four. */
+   byte that marks them. A side's cost is convex in the value, so the turn along the table is found by halving, and the best level is there
+   or one step further; how many offsets a trial one by one takes follows from the best. The list: the marks of a row are a prefix or a
+   suffix of it, and an equal entry is looked for among those with as many marks. Each is compiled for patterns of one word and of four. */
 #include "fast.h"
 
 #define INLINE static inline __attribute__((always_inline))

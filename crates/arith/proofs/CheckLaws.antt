@@ -7,7 +7,7 @@ use native.Mathlib.Omega.{arith}
 use borrow.Author.Tests.{not-true, eqb-false}
 use lib.Dec.{eqb}
 use Rattle.arith.proofs.Bools.{both-of}
-use Rattle.arith.specs.Checks.{unless, refusal, Hold, elsewhere, Answer, refused, given, answer, lent}
+use Rattle.arith.specs.Checks.{unless, refusal, Hold, elsewhere, refused, given, answer, lent}
 
 -- no refusal: the check holds, and none after it fails
 pub passed : (b : Bool) (k rest : ℕ) → unless b (suc k) rest ≡ 0 → (b ≡ true) × (rest ≡ 0)

@@ -26,6 +26,11 @@ unfolding sumTo
 sum-le f b zero h = omega arith
 sum-le f b (suc k) h = omega (arith, suc-mul k b, sum-le f b k (λ i l. h i (omega arith)), h k (omega arith))
 
+-- a term or nothing
+pub term-le : (b : Bool) (x m : ℕ) → x ≤ m → cond b x 0 ≤ m
+term-le true x m h = h
+term-le false x m h = omega arith
+
 pub sum-none : (k : ℕ) → sumTo (λ _. 0) k ≡ 0
 unfolding sumTo
 sum-none zero = refl

@@ -3,7 +3,7 @@ use Prim.Native.Nat.{ℕ, zero, suc, _+_, _-_, _*_, _/_, _%_, _^_, _≤_, _<_, m
 use mathlib.Core.Path.{_≡_, refl, sym, ap, ap₂, _∙_}
 use mathlib.Core.Bool.{Bool, true, false}
 use mathlib.Core.List.{List}
-use native.Mathlib.Decide.{ℕ-discrete, decLe, decLt}
+use native.Mathlib.Decide.{ℕ-discrete, decLt}
 use native.Mathlib.Nat.{add-mul, lt-of-lt-of-le}
 use native.Mathlib.Omega.{arith}
 use lib.Dec.{eqb, ltb}
@@ -12,10 +12,10 @@ use lib.Pow.{pow-mono}
 use lib.Seq.{getD-set-same, getD-set-other}
 use borrow.Author.Tests.{eq-eqb, ne-eqb, le-ltb}
 use Rattle.arith.specs.Bits.{bit, bits}
-use Rattle.arith.proofs.BitLaws.{bits-lt, bits-ext, bits-append, bits-on, bits-off, bits-none, room-above}
+use Rattle.arith.proofs.BitLaws.{bits-lt, bits-ext, bits-on, bits-off, bits-none, room-above}
 use Rattle.arith.proofs.ListLaws.{stored}
-use Rattle.pattern.specs.Words.{joined, fourWords}
-use Rattle.pattern.proofs.WordLaws.{four-same}
+use Rattle.pattern.specs.Words.{fourWords}
+use Rattle.pattern.proofs.WordLaws.{four-same, four-parted}
 use Rattle.choice.specs.Layers.{wordOf, EqualWords, BelowWords, BelowLayers}
 use Rattle.choice.proofs.TallyLaws.{one-more}
 
@@ -28,49 +28,21 @@ bits-zero f = refl
 same-bits : (f g : ℕ → Bool) {j k : ℕ} → ((i : ℕ) → f i ≡ g i) → j ≡ k → bits f j ≡ bits g k
 same-bits f g {j} e q = bits-ext f g j (λ i _. e i) ∙ ap (bits g) q
 
--- the first 64 samples, and those past them
-past-64 : (f : ℕ → Bool) (c : ℕ) → joined (bits (λ j. f (64 + j)) (c - 64)) (bits f (min 64 c)) ≡ bits f c
-past-64 f c = go (decLe 64 c)
-  where
-    go : Dec (64 ≤ c) → joined (bits (λ j. f (64 + j)) (c - 64)) (bits f (min 64 c)) ≡ bits f c
-    go (yes h) =
-        let e : 64 + (c - 64) ≡ c = omega arith in
-        let m : min 64 c ≡ 64 = omega arith in
-        ap (λ (x : ℕ). joined (bits (λ j. f (64 + j)) (c - 64)) (bits f x)) m ∙ sym (bits-append f 64 (c - 64)) ∙ ap (bits f) e
-    go (no h) =
-        let z : c - 64 ≡ 0 = omega arith in
-        let m : min 64 c ≡ c = omega arith in
-        ap₂ (λ (x y : ℕ). joined x (bits f y)) (ap (bits (λ j. f (64 + j))) z ∙ bits-zero (λ j. f (64 + j))) m
-        ∙ (let e : joined 0 (bits f c) ≡ bits f c = omega arith in e)
-
 -- a layer of at most 256 samples is its four words
-pub words-joined :
-    (f : ℕ → Bool) (c : ℕ) → c ≤ 256 → fourWords (wordOf f c 0) (wordOf f c 1) (wordOf f c 2) (wordOf f c 3) ≡ bits f c
-unfolding fourWords
+words-joined : (f : ℕ → Bool) (c : ℕ) → c ≤ 256 → fourWords (wordOf f c 0) (wordOf f c 1) (wordOf f c 2) (wordOf f c 3) ≡ bits f c
 words-joined f c h =
-    let f₁ : ℕ → Bool = λ j. f (64 + j) in
-    let f₂ : ℕ → Bool = λ j. f₁ (64 + j) in
-    let f₃ : ℕ → Bool = λ j. f₂ (64 + j) in
-    let w₀ = same-bits (λ j. f (64 * 0 + j)) f {j = min 64 (c - 64 * 0)} {k = min 64 c} (λ j. ap f (let e : 64 * 0 + j ≡ j = omega arith in e)) (omega arith) in
-    let w₁ = same-bits (λ j. f (64 * 1 + j)) f₁ {j = min 64 (c - 64 * 1)} {k = min 64 (c - 64)} (λ j. ap f (let e : 64 * 1 + j ≡ 64 + j = omega arith in e)) (omega arith) in
-    let w₂ = same-bits (λ j. f (64 * 2 + j)) f₂ {j = min 64 (c - 64 * 2)} {k = min 64 (c - 64 - 64)} (λ j. ap f (let e : 64 * 2 + j ≡ 64 + (64 + j) = omega arith in e)) (omega arith) in
-    let w₃ = same-bits (λ j. f (64 * 3 + j)) f₃ {j = min 64 (c - 64 * 3)} {k = c - 64 - 64 - 64} (λ j. ap f (let e : 64 * 3 + j ≡ 64 + (64 + (64 + j)) = omega arith in e)) (omega arith) in
-    (λ i. joined (joined (joined (w₃ i) (w₂ i)) (w₁ i)) (w₀ i))
-    ∙ ap (λ (x : ℕ). joined (joined x (bits f₁ (min 64 (c - 64)))) (bits f (min 64 c))) (past-64 f₂ (c - 64 - 64))
-    ∙ ap (λ (x : ℕ). joined x (bits f (min 64 c))) (past-64 f₁ (c - 64))
-    ∙ past-64 f c
-
--- a layer by its words
-layer-by :
-    (f : ℕ → Bool) (c : ℕ) → c ≤ 256 → {w₀ w₁ w₂ w₃ : ℕ} → w₀ ≡ wordOf f c 0 → w₁ ≡ wordOf f c 1 → w₂ ≡ wordOf f c 2 → w₃ ≡ wordOf f c 3
-    → fourWords w₀ w₁ w₂ w₃ ≡ bits f c
-layer-by f c h e₀ e₁ e₂ e₃ = four-same e₀ e₁ e₂ e₃ ∙ words-joined f c h
+    four-same
+    (same-bits (λ j. f (64 * 0 + j)) f {j = min 64 (c - 64 * 0)} {k = min c 64} (λ j. ap f (let e : 64 * 0 + j ≡ j = omega arith in e)) (omega arith))
+    (same-bits (λ j. f (64 * 1 + j)) (λ j. f (64 + j)) {j = min 64 (c - 64 * 1)} {k = min (c - 64) 64} (λ j. ap f (let e : 64 * 1 + j ≡ 64 + j = omega arith in e)) (omega arith))
+    (same-bits (λ j. f (64 * 2 + j)) (λ j. f (128 + j)) {j = min 64 (c - 64 * 2)} {k = min (c - 64 - 64) 64} (λ j. ap f (let e : 64 * 2 + j ≡ 128 + j = omega arith in e)) (omega arith))
+    (same-bits (λ j. f (64 * 3 + j)) (λ j. f (192 + j)) {j = min 64 (c - 64 * 3)} {k = min (c - 64 - 64 - 64) 64} (λ j. ap f (let e : 64 * 3 + j ≡ 192 + j = omega arith in e)) (omega arith))
+    ∙ sym (four-parted f c h)
 
 module _ (samples : List ℕ) (few : length samples ≤ 256) where
   pub below-joined : (l : List ℕ) → BelowWords 1028 samples l → BelowLayers 257 samples l
   below-joined l q v h =
-      layer-by (λ k. ltb (getD samples k 0) v) (length samples) few
-      (word 0 (omega arith) (omega arith)) (word 1 (omega arith) refl) (word 2 (omega arith) refl) (word 3 (omega arith) refl)
+      four-same (word 0 (omega arith) (omega arith)) (word 1 (omega arith) refl) (word 2 (omega arith) refl) (word 3 (omega arith) refl)
+      ∙ words-joined (λ k. ltb (getD samples k 0) v) (length samples) few
     where
       word : (i : ℕ) → i < 4 → {a : ℕ} → a ≡ 4 * v + i → getD l a 0 ≡ wordOf (λ k. ltb (getD samples k 0) v) (length samples) i
       word i hi {a} e =
@@ -94,10 +66,10 @@ module _ (f : ℕ → Bool) (k : ℕ) where
   own-last = ap f (let e : 64 * (k / 64) + k % 64 ≡ k = omega arith in e)
 
   -- its word has room for it
-  pub word-room : {w : ℕ} → w ≡ wordOf f k (k / 64) → w + 1 * 2 ^ (k % 64) % 2 ^ 64 < 2 ^ 64
+  word-room : {w : ℕ} → w ≡ wordOf f k (k / 64) → w + 1 * 2 ^ (k % 64) % 2 ^ 64 < 2 ^ 64
   word-room e = room-above own (k % 64) (omega arith) (e ∙ ap (bits own) taken)
 
-  pub word-on : {w r : ℕ} → w ≡ wordOf f k (k / 64) → f k ≡ true → r ≡ w + 1 * 2 ^ (k % 64) % 2 ^ 64 → r ≡ wordOf f (k + 1) (k / 64)
+  word-on : {w r : ℕ} → w ≡ wordOf f k (k / 64) → f k ≡ true → r ≡ w + 1 * 2 ^ (k % 64) % 2 ^ 64 → r ≡ wordOf f (k + 1) (k / 64)
   word-on e t q = bits-on own (k % 64) (omega arith) (e ∙ ap (bits own) taken) (own-last ∙ t) q ∙ ap (bits own) (sym taken-more)
 
   word-off : {w : ℕ} → w ≡ wordOf f k (k / 64) → f k ≡ false → w ≡ wordOf f (k + 1) (k / 64)

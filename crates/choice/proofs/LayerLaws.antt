@@ -34,7 +34,7 @@ and-digit zero (suc (suc y)) p q = absurd (omega arith)
 and-digit (suc zero) (suc (suc y)) p q = absurd (omega arith)
 and-digit (suc (suc x)) y p q = absurd (omega arith)
 
-pub and-bit : (a b k : ℕ) → testBit (bitAnd a b) k ≡ (testBit a k && testBit b k)
+and-bit : (a b k : ℕ) → testBit (bitAnd a b) k ≡ (testBit a k && testBit b k)
 and-bit a b k =
     ap (λ (x : ℕ). eqb (x % 2) 1) (and-shr a b k)
     ∙ ap (λ (x : ℕ). eqb x 1) (and-low (a / 2 ^ k) (b / 2 ^ k))
@@ -70,13 +70,13 @@ xor-bit a b k =
 
 -- the samples of a word in a layer
 module _ (c w : ℕ) (f : ℕ → Bool) (small : w < 2 ^ c) where
-  pub common-lt : bitAnd w (bits f c) < 2 ^ c
+  common-lt : bitAnd w (bits f c) < 2 ^ c
   common-lt = lt-of-le-of-lt (and-le-l w (bits f c)) small
 
   pub common-bit : (k : ℕ) → k < c → testBit (bitAnd w (bits f c)) k ≡ (testBit w k && f k)
   common-bit k l = and-bit w (bits f c) k ∙ ap (λ (b : Bool). testBit w k && b) (bits-at f c k l)
 
-  pub common-ones : ones (bitAnd w (bits f c)) ≡ sumTo (λ k. bit (testBit w k && f k)) c
+  common-ones : ones (bitAnd w (bits f c)) ≡ sumTo (λ k. bit (testBit w k && f k)) c
   common-ones = ones-bits c (bitAnd w (bits f c)) common-lt ∙ sum-ext _ _ c (λ k l. ap bit (common-bit k l))
 
 -- ---- word by word

@@ -15,11 +15,14 @@ use Rattle.arith.specs.Distance.{dist}
 use Rattle.arith.specs.Sum.{sumTo}
 use Rattle.choice.specs.Cost.{sideCost}
 use Rattle.choice.specs.Tally.{sideCount, sideSize, sideBelow}
-use Rattle.choice.specs.Layers.{belowWord, layerAt, Fits, markedSum, Parted}
+use Rattle.choice.specs.Layers.{belowWord, layerAt, Fits, Parted}
+use Rattle.choice.specs.Sums.{markedSum}
 use Rattle.choice.proofs.LayerLaws.{common-bit, below-count}
 use Rattle.choice.proofs.TallyLaws.{count-le}
 use Rattle.choice.proofs.CostLaws.{sideCost-le}
 use Rattle.choice.proofs.SumLaws.{marked-le}
+
+-- ---- the cost from sums, sample by sample
 
 five-sums :
     (v : ℕ) (A B C D E : ℕ → ℕ) (c : ℕ) → ((k : ℕ) → k < c → A k + (2 * B k + v * C k) ≡ E k + 2 * (v * D k))
@@ -40,6 +43,7 @@ cost-sample :
 cost-sample v x true t e = rw e (cost-part v x (ltb x v) refl)
 cost-sample v x false t e = rw e (omega (arith, mul-zero v))
 
+-- the cost at v of a part, by its size and sum and by the count and sum of its samples below v; all are small
 pub record Sums (v count size lower sum cost : ℕ) : Type 0 where
   pub balance : cost + (2 * lower + v * size) ≡ sum + 2 * (v * count)
   pub count-small : v * count ≤ 65280
@@ -78,8 +82,9 @@ module _ (samples below sums : List ℕ) (word size sum : ℕ) (q : Parted sampl
   cost-by-sums =
       five-sums v _ _ _ _ _ c (λ k l. cost-sample v (s k) (testBit word k) _ (common-bit c word (λ i. ltb (getD samples i 0) v) (q .small) k l))
 
-  pub sums-at : ((k : ℕ) → getD samples k 0 < 256) → Sums v (ones low) size (markedSum s low c) sum (sideCost c samples word true v)
-  sums-at bytes =
+  -- the sums and counts at v, and the cost that follows from them
+  pub cost-sums : ((k : ℕ) → getD samples k 0 < 256) → Sums v (ones low) size (markedSum s low c) sum (sideCost c samples word true v)
+  cost-sums bytes =
       let few = q .layers .few in
       let byte : (k : ℕ) → s k ≤ 255 = λ k. let b = bytes k in omega (arith, b) in
       record {

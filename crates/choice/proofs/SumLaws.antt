@@ -1,7 +1,7 @@
 -- Sums of samples by their marks: one sample more, eight at a time, and word by word.
 use Prim.Native.Nat.{ℕ, _+_, _-_, _*_, _/_, _%_, _^_, _≤_, _<_}
 use mathlib.Core.Path.{_≡_, refl, sym, ap, ap₂, _∙_, subst}
-use mathlib.Core.Bool.{Bool, true, false, cond}
+use mathlib.Core.Bool.{Bool, cond}
 use mathlib.Core.List.{List}
 use mathlib.Core.Logic.{inl, inr, ⊎-elim}
 use native.Mathlib.Numerals.{add-one}
@@ -10,22 +10,19 @@ use native.Mathlib.Decide.{decLt, ℕ-discrete}
 use native.Mathlib.Omega.{arith}
 use lib.Dec.{eqb}
 use lib.ListN.{length, getD, set, replicate, length-set, getD-replicate}
-use lib.Pow.{pow-mono, high}
+use lib.Pow.{pow-mono}
 use lib.Seq.{getD-set-same, getD-set-other}
-use borrow.Author.Tests.{eq-eqb, ne-eqb, eqb-true}
-use Rattle.arith.specs.Bits.{bit, bits, testBit}
+use borrow.Author.Tests.{eq-eqb, ne-eqb, eqb-true, lt-ltb, ltb-true}
+use Rattle.arith.specs.Bits.{testBit}
 use Rattle.arith.specs.Sum.{sumTo}
+use Rattle.arith.proofs.Bools.{both-of}
 use Rattle.arith.proofs.BitLaws.{shifted-one, low-bit, high-bit, field-bit, rest-lt, bit-past, zero-bit}
-use Rattle.arith.proofs.Sums.{sum-ext, sum-add, sum-le, sum-none, sum-append, sum-rows, sum-one}
+use Rattle.arith.proofs.Sums.{sum-ext, sum-add, sum-le, term-le, sum-none, sum-append, sum-rows, sum-one}
 use Rattle.pattern.specs.Words.{joined, fourWords}
-use Rattle.pattern.proofs.WordLaws.{first-word}
-use Rattle.choice.specs.Layers.{markedSum, EightSums, Followed, bytesSum}
+use Rattle.pattern.proofs.WordLaws.{first-word, four-below}
+use Rattle.choice.specs.Sums.{markedSum, EightSums, Followed, bytesSum}
 
 -- ---- sums over the bits of a number
-
-term-le : (b : Bool) (x m : ℕ) → x ≤ m → cond b x 0 ≤ m
-term-le true x m h = h
-term-le false x m h = omega arith
 
 -- equal terms
 pub marked-same : (f g : ℕ → ℕ) (w c : ℕ) → ((k : ℕ) → f k ≡ g k) → markedSum f w c ≡ markedSum g w c
@@ -197,13 +194,6 @@ module _ (samples : List ℕ) where
 
 -- ---- word by word
 
--- the two parts of a number below a power
-high-lt : (h l c : ℕ) → l < 2 ^ 64 → joined h l < 2 ^ c → h < 2 ^ (c - 64)
-high-lt h l c p small = rw (high h 64 p) at (rest-lt (joined h l) c 64 small)
-
-first-lt : (h l c : ℕ) → joined h l < 2 ^ c → l < 2 ^ c
-first-lt h l c small = lt-of-le-of-lt (let e : l ≤ joined h l = omega arith in e) small
-
 -- byte by byte, as a loop adds them up
 pub bytes-none : (sums : List ℕ) (i w : ℕ) → 0 ≡ bytesSum sums i w 0
 unfolding sumTo
@@ -266,17 +256,17 @@ module _ (samples sums : List ℕ) (q : EightSums (length samples) samples sums)
       → bytesSum sums 3 w₃ 8 + bytesSum sums 2 w₂ 8 + bytesSum sums 1 w₁ 8 + bytesSum sums 0 w₀ 8 ≡ markedSum s (fourWords w₀ w₁ w₂ w₃) c
   unfolding fourWords
   four-marked w₀ w₁ w₂ w₃ p₀ p₁ p₂ few small =
-      let h₁ = high-lt (joined (joined w₃ w₂) w₁) w₀ c p₀ small in
-      let h₂ = high-lt (joined w₃ w₂) w₁ (c - 64) p₁ h₁ in
-      let h₃ = high-lt w₃ w₂ (c - 64 - 64) p₂ h₂ in
+      let b₀ = both-of _ _ (sym (four-below w₀ w₁ w₂ w₃ c p₀ p₁ p₂) ∙ lt-ltb (fourWords w₀ w₁ w₂ w₃) (2 ^ c) small) in
+      let b₁ = both-of _ _ (b₀ .0) in
+      let b₂ = both-of _ _ (b₁ .0) in
       let e₀ : c ≡ c - 64 * 0 = omega arith in
       let e₁ : c - 64 ≡ c - 64 * 1 = omega arith in
       let e₂ : c - 64 - 64 ≡ c - 64 * 2 = omega arith in
       let e₃ : c - 64 - 64 - 64 ≡ c - 64 * 3 = omega arith in
-      let s₀ = word-marked 0 w₀ (omega arith) (rw e₀ at (first-lt (joined (joined w₃ w₂) w₁) w₀ c small)) in
-      let s₁ = word-marked 1 w₁ (omega arith) (rw e₁ at (first-lt (joined w₃ w₂) w₁ (c - 64) h₁)) in
-      let s₂ = word-marked 2 w₂ (omega arith) (rw e₂ at (first-lt w₃ w₂ (c - 64 - 64) h₂)) in
-      let s₃ = word-marked 3 w₃ (omega arith) (rw e₃ at h₃) in
+      let s₀ = word-marked 0 w₀ (omega arith) (rw e₀ at (ltb-true w₀ (2 ^ c) (b₀ .1))) in
+      let s₁ = word-marked 1 w₁ (omega arith) (rw e₁ at (ltb-true w₁ (2 ^ (c - 64)) (b₁ .1))) in
+      let s₂ = word-marked 2 w₂ (omega arith) (rw e₂ at (ltb-true w₂ (2 ^ (c - 64 - 64)) (b₂ .1))) in
+      let s₃ = word-marked 3 w₃ (omega arith) (rw e₃ at (ltb-true w₃ (2 ^ (c - 64 - 64 - 64)) (b₂ .0))) in
       let t₀ = marked-same (λ m. s (64 * 0 + m)) s w₀ 64 (λ m. ap s (let d : 64 * 0 + m ≡ m = omega arith in d)) in
       let t₁ = marked-same (λ m. s (64 * 1 + m)) (λ m. s (64 + m)) w₁ 64 (λ m. ap s (let d : 64 * 1 + m ≡ 64 + m = omega arith in d)) in
       let t₂ = marked-same (λ m. s (64 * 2 + m)) (λ m. s (64 + (64 + m))) w₂ 64 (λ m. ap s (let d : 64 * 2 + m ≡ 64 + (64 + m) = omega arith in d)) in

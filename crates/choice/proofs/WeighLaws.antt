@@ -17,7 +17,8 @@ use Rattle.prediction.proofs.SideCallLaws.{sides-accepted}
 use Rattle.depth_table.specs.Offset.{levelOf}
 use Rattle.choice.specs.Offset.{offset}
 use Rattle.choice.specs.Cost.{sideCost}
-use Rattle.choice.specs.Layers.{layerAt, belowWord, markedSum, Parted}
+use Rattle.choice.specs.Layers.{layerAt, belowWord, Parted}
+use Rattle.choice.specs.Sums.{markedSum}
 use Rattle.choice.specs.Tally.{sideSize}
 use Rattle.choice.specs.Trial.{TrialOf}
 use Rattle.choice.specs.Turn.{offsetCost, Findable}

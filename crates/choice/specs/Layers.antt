@@ -1,16 +1,15 @@
--- A block's samples in layers, each layer a pattern; sums of its samples by their marks; and a part of them.
+-- A block's samples in layers, each layer a pattern; and a part of a block.
 use Prim.Native.Nat.{ℕ, _+_, _-_, _*_, _/_, _%_, _^_, _≤_, _<_, min}
 use mathlib.Core.Path.{_≡_}
 use mathlib.Core.Bool.{Bool, true, cond}
 use mathlib.Core.List.{List}
-use mathlib.Core.Logic.{_⊎_}
 use lib.Dec.{eqb, ltb}
 use lib.ListN.{length, getD}
-use Rattle.arith.specs.Bits.{bits, testBit}
-use Rattle.arith.specs.Sum.{sumTo}
+use Rattle.arith.specs.Bits.{bits}
 use Rattle.pattern.specs.Size.{greatestSamples}
 use Rattle.pattern.specs.Words.{fourAt, greatestWords}
 use Rattle.choice.specs.Tally.{sideSize}
+use Rattle.choice.specs.Sums.{markedSum, EightSums}
 
 -- of the first c samples: those below v
 abbrev pub belowWord : ℕ → List ℕ → ℕ → ℕ
@@ -39,27 +38,6 @@ BelowLayers m samples l = (v : ℕ) → v < m → layerAt l v ≡ belowWord (len
 -- a pattern that fits in one word, or in four where it may be wide
 abbrev pub Fits : Bool → ℕ → Type 0
 Fits wide w = w < 2 ^ cond wide greatestSamples 64
-
--- the sum of f over the bits of the word, of the first c
-unfoldable pub markedSum : (ℕ → ℕ) → ℕ → ℕ → ℕ
-markedSum f w c = sumTo (λ k. cond (testBit w k) (f k) 0) c
-
--- sums of eight samples each by their marks: at 256r + b is the sum of those of the samples 8r to 8r + 7 that the byte b marks, for every
--- byte that marks some of the first c samples only
-abbrev pub EightSums : ℕ → List ℕ → List ℕ → Type 0
-EightSums c samples l =
-    (length l ≡ 8192)
-    × ((r b : ℕ) → r < 32 → b < 256 → b < 2 ^ (c - 8 * r) → getD l (256 * r + b) 0 ≡ markedSum (λ j. getD samples (8 * r + j) 0) b 8)
-
--- how the sums take up one sample more: those from a place on, `width` in number, are followed by the first m of the same with x added
-pub record Followed (before after : List ℕ) (from width x m : ℕ) : Type 0 where
-  pub as-long : length after ≡ length before
-  pub added : (i : ℕ) → i < m → getD after (from + width + i) 0 ≡ getD before (from + i) 0 + x
-  pub others : (a : ℕ) → (a < from + width) ⊎ (from + width + m ≤ a) → getD after a 0 ≡ getD before a 0
-
--- what the sums say of the samples from 64i on that a word marks, byte by byte, for the first m bytes
-abbrev pub bytesSum : List ℕ → ℕ → ℕ → ℕ → ℕ
-bytesSum sums i w m = sumTo (λ k. getD sums (256 * (8 * i + k) + w / 2 ^ (8 * k) % 256) 0) m
 
 -- all layers of a block, and its sums
 pub record Layered (samples below sums : List ℕ) : Type 0 where

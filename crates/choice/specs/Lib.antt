@@ -11,5 +11,6 @@ pub mod Offset
 pub mod Cost
 pub mod Tally
 pub mod Trial
+pub mod Sums
 pub mod Layers
 pub mod Turn

@@ -86,8 +86,8 @@ pub(crate) fn cost_at(
     let value = v as u32;
     let marks = lower(below, part.marks, v);
     let count = size_of(marks, part.wide);
-    let sum = sum_of(samples, sums, marks, part.wide);
-    part.sum + 2 * (value * count) - (2 * sum + value * part.size)
+    let lower_sum = sum_of(samples, sums, marks, part.wide);
+    part.sum + 2 * (value * count) - (2 * lower_sum + value * part.size)
 }
 
 // The samples of the block that a pattern does not mark.

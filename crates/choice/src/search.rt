@@ -75,9 +75,6 @@ struct Sides {
     tried: u32,
 }
 
-// More than any pattern costs: a partition costs at most 255 for each of 256 samples.
-const ABOVE_ALL: u32 = 130561;
-
 // The best offset of each partition of a pattern, the cost of both, and how many offsets were tried for both.
 fn best_sides(
     n: usize,
@@ -173,6 +170,9 @@ pub(crate) struct Picked {
     pub cost: u32,
     pub tried: u32,
 }
+
+// More than any pattern costs: it has two partitions, and each costs at most 255 for each of 256 samples.
+const ABOVE_ALL: u32 = 2 * 255 * 256 + 1;
 
 // The first pattern of least cost, and how many offsets were tried for all patterns.
 pub(crate) fn best_pattern(

@@ -4,25 +4,26 @@ ghost use Prim.Native.Nat.{ℕ, _+_, _*_, _<_, _≤_, _^_};
 ghost use lib.ListN.{length, getD};
 ghost use Rattle.pattern.specs.Size.{greatestSamples};
 ghost use Rattle.pattern.specs.Words.{patternNumber};
-ghost use Rattle.choice.specs.Layers.{Fits, Followed, EightSums, markedSum, bytesSum};
+ghost use Rattle.choice.specs.Layers.{Fits};
+ghost use Rattle.choice.specs.Sums.{Followed, EightSums, markedSum, bytesSum};
 use pattern::Pattern;
 
 // 256 sums for each eight samples of a block of the greatest size.
 pub(crate) const SUMS: usize = 32 * 256;
 
 // A byte as a sum.
-fn long(x: u8) -> u16
+fn widened(x: u8) -> u16
     ensures { λ r. ⌜ r ≡ x ⌝ }
 {
     x as u16
 }
 
-// The sums of the samples so far, from a place on, are followed by the same sums with one sample more.
+// One sample more: behind the `width` sums from `from` on it puts the same with the sample added.
 fn take_sample(sums: &mut [u16], from: usize, width: usize, sample: u8)
     requires { ⌜ (from + 2 * width ≤ length (now sums)) × ((i : ℕ) → i < width → getD (now sums) (from + i) 0 ≤ 2040) ⌝ }
     ensures { λ _. ⌜ Followed (now (sums .entry)) (now (sums .exit)) from width sample width ⌝ }
 {
-    let x = long(sample);
+    let x = widened(sample);
     for i in 0..width {
         sums[from + width + i] = sums[from + i] + x;
     }
@@ -40,8 +41,8 @@ pub(crate) fn eight_sums(samples: &[u8]) -> [u16; SUMS]
     sums
 }
 
-// A sum as a longer number.
-fn number(x: u16) -> u32
+// A sum of eight samples as one of a part.
+fn widened_sum(x: u16) -> u32
     ensures { λ r. ⌜ (r ≡ x) × (r ≤ 65535) ⌝ }
 {
     x as u32
@@ -55,7 +56,7 @@ fn word_sum(sums: &[u16; SUMS], i: usize, w: u64) -> u32
     let mut sum: u32 = 0;
     for k in 0..8 {
         let byte = ((w >> (8 * k)) % 256) as usize;
-        sum += number(sums[256 * (8 * i + k) + byte]);
+        sum += widened_sum(sums[256 * (8 * i + k) + byte]);
     }
     sum
 }

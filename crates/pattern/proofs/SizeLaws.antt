@@ -37,10 +37,6 @@ each-size ok n h s =
 pub size-bounds : (n : ℕ) → sizeOk n ≡ true → (4 ≤ n) × (n ≤ greatestSize)
 size-bounds n h = ⊎-elim (λ b. omega arith) (λ e. omega arith) (size-cases n h)
 
--- past 8 there is the greatest alone
-pub size-wide : (n : ℕ) → sizeOk n ≡ true → 8 < n → n ≡ greatestSize
-size-wide n h l = ⊎-elim (λ b. absurd (omega arith)) (λ e. e) (size-cases n h)
-
 -- a block of at most 8 by 8 samples has at most 64, and each block at most as many as the greatest
 pub square-64 : {n : ℕ} → n ≤ 8 → n * n ≤ 64
 square-64 h = square-le {m = 8} h

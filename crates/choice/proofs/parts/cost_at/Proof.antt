@@ -8,8 +8,8 @@ use lib.Count.{ones}
 use lib.ListN.{length, getD}
 use Rattle.pattern.specs.Words.{patternNumber}
 use Rattle.choice.specs.Cost.{sideCost}
-use Rattle.choice.specs.Layers.{markedSum}
-use Rattle.choice.proofs.PartLaws.{Sums, sums-at, low-lt, low-fits}
+use Rattle.choice.specs.Sums.{markedSum}
+use Rattle.choice.proofs.PartLaws.{Sums, cost-sums, low-lt, low-fits}
 use Rattle.choice.proofs.parts.cost_at.Statement.{statement}
 use Rattle.choice.proofs.parts.cost_at.Tie as tie
 
@@ -37,7 +37,7 @@ facts c =
     let o = s .args .samples .now in
     let e = c .before .before .lower .ensures in
     rw (c .before .size-of .ensures .0 ∙ ap ones e, c .sum-of .ensures ∙ ap (λ (w : ℕ). markedSum (λ k. getD o k 0) w (length o)) e)
-    (sums-at _ _ _ _ _ _ (s .pre .0) (s .args .v) (s .pre .2) (λ i. g .shared-slice-known .given i .fits))
+    (cost-sums _ _ _ _ _ _ (s .pre .0) (s .args .v) (s .pre .2) (λ i. g .shared-slice-known .given i .fits))
 
 mul-result : tie.Need-mul-result
 mul-result c = omega (arith, facts c)

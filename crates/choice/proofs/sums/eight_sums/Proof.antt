@@ -4,7 +4,7 @@ use borrow.Author.Needs.{needs}
 use Prim.Native.Nat.{_-_, _≤_, _<_}
 use mathlib.Core.Path.{_≡_, sym}
 use lib.ListN.{length}
-use Rattle.choice.specs.Layers.{EightSums}
+use Rattle.choice.specs.Sums.{EightSums}
 use Rattle.choice.proofs.SumLaws.{width-is, eight-none, eight-room, eight-small, eight-more}
 use Rattle.choice.proofs.sums.eight_sums.Statement.{statement}
 use Rattle.choice.proofs.sums.eight_sums.Tie as tie

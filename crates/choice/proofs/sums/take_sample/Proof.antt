@@ -4,7 +4,7 @@ use borrow.Author.Needs.{needs}
 use Prim.Native.Nat.{_+_, _-_, _≤_}
 use mathlib.Core.Logic.{inl}
 use mathlib.Core.Path.{refl}
-use Rattle.choice.specs.Layers.{Followed}
+use Rattle.choice.specs.Sums.{Followed}
 use Rattle.choice.proofs.SumLaws.{followed-none, followed-more, followed-end}
 use Rattle.choice.proofs.sums.take_sample.Statement.{statement}
 use Rattle.choice.proofs.sums.take_sample.Tie as tie
@@ -23,7 +23,7 @@ add-sums-2 c =
     let l = c .before .before .loop in
     let g = c .before .before .before in
     let s = g .before .before in
-    record { fits = omega (arith, g .long .ensures, l .inv .1 .others (s .args .from + l .i) (inl (omega arith)), s .pre .1 (l .i) (omega arith)) }
+    record { fits = omega (arith, g .widened .ensures, l .inv .1 .others (s .args .from + l .i) (inl (omega arith)), s .pre .1 (l .i) (omega arith)) }
 
 loop-again : tie.Need-loop-again Inv-loop μ-loop
 loop-again c =
@@ -33,7 +33,7 @@ loop-again c =
 returns : tie.Need-returns Inv-loop μ-loop
 returns c =
     let l = c .before .loop in
-    followed-end _ _ _ _ (l .sums) (omega arith) (c .before .before .long .ensures) (l .inv .1)
+    followed-end _ _ _ _ (l .sums) (omega arith) (c .before .before .widened .ensures) (l .inv .1)
 
 pub take-sample-spec : {M : Type 1} → statement M
 take-sample-spec =

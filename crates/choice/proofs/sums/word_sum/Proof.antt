@@ -3,7 +3,7 @@ use native.Mathlib.Omega.{arith}
 use borrow.Author.Needs.{needs}
 use Prim.Native.Nat.{_-_, _*_, _≤_}
 use mathlib.Core.Path.{_≡_, ap, _∙_}
-use Rattle.choice.specs.Layers.{bytesSum}
+use Rattle.choice.specs.Sums.{bytesSum}
 use Rattle.choice.proofs.SumLaws.{bytes-none, bytes-more}
 use Rattle.choice.proofs.sums.word_sum.Statement.{statement}
 use Rattle.choice.proofs.sums.word_sum.Tie as tie
@@ -21,7 +21,7 @@ loop-again : tie.Need-loop-again Inv-loop μ-loop
 loop-again c =
     let l = c .before .before .before .loop in
     let a = c .before .before .before .before .args in
-    (omega arith, bytes-more (a .sums .now) (a .i) (a .w) (l .k) (l .inv .1) (c .number .ensures .0), omega (arith, c .number .ensures .1))
+    (omega arith, bytes-more (a .sums .now) (a .i) (a .w) (l .k) (l .inv .1) (c .widened-sum .ensures .0), omega (arith, c .widened-sum .ensures .1))
 
 returns : tie.Need-returns Inv-loop μ-loop
 returns c =
