@@ -15,7 +15,7 @@ use Rattle.arith.specs.Sum.{sumTo}
 use Rattle.arith.proofs.Bools.{both-of}
 use Rattle.arith.proofs.CheckLaws.{holds, answer-refused, lent-refused, given-means}
 use Rattle.depth_table.specs.Table.{tableOk, someValue}
-use Rattle.pattern.specs.Size.{greatestSize, sizeOk, wordOk}
+use Rattle.pattern.specs.Size.{greatestSize, sizeOk}
 use Rattle.pattern.proofs.PatternLaws.{marks-counted}
 use Rattle.pattern.proofs.SizeLaws.{size-bounds}
 use Rattle.depth_table.specs.Offset.{offsetOk}

@@ -1,7 +1,7 @@
 -- Both inverse laws of the whole text: reading gives what was printed, and what is read was printed so.
 use Prim.Native.Nat.{ℕ, _+_, _*_, _≤_, _<_}
 use mathlib.Core.Path.{_≡_, refl, ap, sym, subst, _∙_}
-use mathlib.Core.Bool.{true, _&&_}
+use mathlib.Core.Bool.{true}
 use mathlib.Core.List.{List, [], _++_, append-nil}
 use native.Mathlib.Omega.{arith}
 use borrow.Author.Tests.{leb-true}
@@ -17,7 +17,7 @@ use Rattle.sheet.specs.State.{stateOf, sidesOk}
 use Rattle.sheet.proofs.SideLaws.{side-bounds}
 use Rattle.record_text.specs.declared.fields.SizeFields.{SizeFields}
 use Rattle.record.specs.declared.Record.{Record}
-use Rattle.record_text.specs.Printable.{SizePrintable, RecordPrintable}
+use Rattle.record_text.specs.Printable.{SizePrintable}
 use Rattle.record_text.specs.Parsed.{exactly}
 use Rattle.record_text.specs.Line.{sizeTitle, depthTitle, recordTitle, sizeLine, sizeText, valueLine, valueText, recordLine, recordText}
 use Rattle.record_text.specs.Lines.{read, noMeaning, manyLines, texts, Each}

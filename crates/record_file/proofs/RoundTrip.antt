@@ -1,12 +1,12 @@
 -- Document 01, "House file": both round trips, for every list, count, table and records.
 use Prim.Native.Nat.{ℕ, _≤_, _<_}
 use mathlib.Core.Path.{_≡_, refl, sym, _∙_, ap}
-use mathlib.Core.Bool.{Bool, true, false, _||_}
+use mathlib.Core.Bool.{Bool, true, false}
 use mathlib.Core.List.{List, [], _∷_}
-use mathlib.Core.Logic.{_⊎_, ⊎-elim}
+use mathlib.Core.Logic.{_⊎_}
 use native.Mathlib.Omega.{arith}
-use borrow.Author.Tests.{leb-true, lt-ltb, le-leb, eq-eqb}
-use lib.Dec.{eqb, leb}
+use borrow.Author.Tests.{leb-true, lt-ltb, le-leb}
+use lib.Dec.{leb}
 use lib.ListN.{length, getD}
 use Rattle.arith.specs.Checks.{refusal}
 use Rattle.arith.specs.Lists.{listOf}

@@ -28,7 +28,7 @@ use Rattle.record_read.specs.declared.reading.FileBack.{FileBack}
 use Rattle.record_text.specs.declared.cursor.Cursor.{Cursor}
 use Rattle.record_read.specs.declared.loops.LinesRead.{LinesRead}
 use Rattle.record_read.specs.declared.loops.LinesRead.the-variants as linesRead
-use Rattle.record_read.specs.Told.{only, PutIf, frontSize}
+use Rattle.record_read.specs.Told.{PutIf, frontSize}
 use Rattle.record_read.specs.Back.{materialFor, inTurn, drawnOn, samplesBack, fileBack, Lent, lentOf, leaving, Leaves}
 use Rattle.record_read.specs.Step.{oneList, Begun, FrontRead, Counted, HasRoom, begunAt, tableOf, areaOf, blockLines, withFront, sheetLines, backBy}
 use Rattle.record_read.specs.Step.{Left, placedAll, ReadsAll}

@@ -8,7 +8,6 @@ use lib.IntN.{ℤ, pos, negsuc, natAbs}
 use lib.ListN.{length, getD}
 use mir.Syntax.{w32}
 use mir.Val.{toZ, ofZ}
-use Rattle.record_text.specs.declared.fields.SizeFields.{SizeFields}
 use Rattle.record.specs.declared.Record.{Record}
 use Rattle.record_text.specs.Parsed.{Parsed, badForm, found, andThen, mapped}
 use Rattle.record_text.specs.Field.{signed, signedText}

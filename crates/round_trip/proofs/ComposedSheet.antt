@@ -8,7 +8,7 @@ use native.Mathlib.Nat.{zero-add, add-zero, add-suc}
 use native.Mathlib.Omega.{arith}
 use borrow.Author.Tests.{ltb-true}
 use lib.IntN.{ℤ}
-use lib.ListN.{length, getD, drop, length-append, length-drop, List·getD-append}
+use lib.ListN.{length, getD, drop, length-append, List·getD-append}
 use Rattle.arith.specs.Checks.{given}
 use Rattle.arith.specs.Lists.{listOf}
 use Rattle.arith.proofs.CheckLaws.{given-means}

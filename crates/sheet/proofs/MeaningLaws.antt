@@ -2,7 +2,7 @@
 use Prim.Native.Nat.{ℕ, _*_}
 use mathlib.Core.Bool.{true}
 use mathlib.Core.List.{List}
-use mathlib.Core.Path.{_≡_, refl, sym, ap, _∙_}
+use mathlib.Core.Path.{_≡_, sym, ap, _∙_}
 use mathlib.Core.Logic.{_⊎_, ⊎-elim}
 use native.Mathlib.Omega.{arith}
 use borrow.Author.Tests.{eq-eqb, lt-ltb, ltb-true}
@@ -20,7 +20,7 @@ use Rattle.choice.specs.Record.{patternOf, predictionOf}
 use Rattle.prediction.specs.Block.{predicted}
 use Rattle.sheet_grid.specs.Samples.{written}
 use Rattle.record.specs.declared.Record.{Record}
-use Rattle.record.specs.Meaning.{Named, listed, contour, patternNamed, recordMeaning, recordRefusal}
+use Rattle.record.specs.Meaning.{Named, listed, contour, patternNamed, recordMeaning}
 use Rattle.record.proofs.MeaningLaws.{record-sound, meaning-given, meaning-refused, contour-lit, pattern-fits}
 use Rattle.sheet.specs.Place.{Drawable, drawRefusal}
 

@@ -1,5 +1,5 @@
 -- What is shown of a file depends only on its first bytes: one more than the longest sound file can need.
-use Prim.Native.Nat.{ℕ, suc, _+_, _*_, _≤_, _<_}
+use Prim.Native.Nat.{ℕ, _+_, _*_, _≤_, _<_}
 use mathlib.Core.Path.{_≡_, refl, sym, _∙_, ap}
 use mathlib.Core.List.{List, _++_}
 use native.Mathlib.Decide.{decLt}

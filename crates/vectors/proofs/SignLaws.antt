@@ -1,8 +1,7 @@
 -- Signed numbers from their magnitude.
 use Prim.Native.Nat.{ℕ, zero, suc, _<_}
-use mathlib.Core.Path.{_≡_}
 use native.Mathlib.Omega.{arith}
-use lib.IntN.{ℤ, pos, negsuc, _-ℤ_, +ℤ-idl}
+use lib.IntN.{pos, negsuc, _-ℤ_, +ℤ-idl}
 use mir.Syntax.{w32}
 use mir.Val.{SFits, toZ}
 use mir.ValLaws.{toZ-pos}

@@ -1,7 +1,5 @@
 -- `file_calls_read` meets its contract: the struct says what `read` answered.
-use mathlib.Core.Path.{_≡_, refl, ap, _∙_}
-use Prim.Native.Nat.{ℕ}
-use Rattle.file_calls.specs.declared.FileRead.{FileRead}
+use mathlib.Core.Path.{_≡_, refl, ap}
 use Rattle.file_calls.specs.Structs.{fileReadOf}
 use borrow.Author.Needs.{needs}
 use Rattle.file_calls.proofs.file_calls_read.Statement.{statement}

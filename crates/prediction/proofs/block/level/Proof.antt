@@ -6,7 +6,7 @@ use mir.ValLaws.{toZ-ofZ}
 use Rattle.arith.specs.Checks.{given}
 use Rattle.arith.proofs.CheckLaws.{given-same, given-never}
 use Rattle.depth_table.specs.Answer.{indexTold, valueTold}
-use Rattle.depth_table.specs.Offset.{offsetOk, valueOf}
+use Rattle.depth_table.specs.Offset.{valueOf}
 use Rattle.depth_table.specs.Table.{indexOf}
 use Rattle.depth_table.proofs.LevelLaws.{nearest-given, value-given, level-found}
 use Rattle.prediction.proofs.block.level.Statement.{statement}

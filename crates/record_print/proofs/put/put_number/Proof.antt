@@ -1,8 +1,7 @@
 -- `put_number` meets its contract: there is room for as many bytes as the field has, and then it is written.
 use Prim.Native.Nat.{ℕ, _+_}
 use mathlib.Core.Path.{_≡_, sym, _∙_, ap}
-use mathlib.Core.Bool.{Bool, true}
-use native.Mathlib.Omega.{arith}
+use mathlib.Core.Bool.{true}
 use borrow.Author.Needs.{needs}
 use borrow.Author.Tests.{not-true, not-false, ltb-true, leb-true}
 use lib.Dec.{leb}

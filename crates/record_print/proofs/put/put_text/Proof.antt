@@ -1,6 +1,6 @@
 -- `put_text` meets its contract. The loop's invariant: what is left of the text, written to the bytes as they are, gives what the whole
 -- gives.
-use Prim.Native.Nat.{ℕ, _+_, _-_, _≤_, _<_}
+use Prim.Native.Nat.{ℕ, _+_, _-_, _≤_}
 use mathlib.Core.Path.{_≡_, sym, _∙_, ap, refl}
 use native.Mathlib.Nat.{add-zero}
 use native.Mathlib.Omega.{arith}

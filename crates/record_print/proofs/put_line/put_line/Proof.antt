@@ -1,8 +1,6 @@
 -- `put_line` meets its contract: the line is made apart, and then put.
-use Prim.Native.Nat.{ℕ}
 use native.Mathlib.Omega.{arith}
 use borrow.Author.Needs.{needs}
-use lib.ListN.{length-replicate}
 use Rattle.record_text.proofs.LengthLaws.{line-le}
 use Rattle.record_print.proofs.PutLaws.{made-length, made-put}
 use Rattle.record_print.proofs.put_line.put_line.Statement.{statement}

@@ -1,18 +1,15 @@
 -- `read` meets its contract: the lengths, the lines before the records, and the sheet.
 use borrow.Author.Needs.{needs}
-use mathlib.Core.Path.{_≡_, sym, _∙_, ap, subst}
-use Prim.Native.Nat.{ℕ}
+use mathlib.Core.Path.{_≡_, sym, _∙_, ap}
 use mathlib.Core.Bool.{true}
-use mathlib.Core.List.{List}
 use borrow.Author.Tests.{not-true, not-false}
 use lib.ListN.{length}
-use Rattle.record_text.specs.Lines.{Lined}
-use Rattle.record_file.specs.Reading.{File, Aids, aidsOf, fileLines, listsOk, readLengthsOk, ReadLengths}
+use Rattle.record_file.specs.Reading.{Aids, aidsOf, fileLines, listsOk, readLengthsOk, ReadLengths}
 use Rattle.record_file.proofs.FileLaws.{size-small}
 use Rattle.record_file.proofs.RoundTrip.{read-lengths}
 use Rattle.record_read.specs.Told.{frontSize}
-use Rattle.record_read.specs.Back.{Lent, lentOf, reading, Leaves}
-use Rattle.record_read.specs.Step.{oneList, FrontRead, sheetLines}
+use Rattle.record_read.specs.Back.{Lent, lentOf, reading}
+use Rattle.record_read.specs.Step.{FrontRead}
 use Rattle.record_read.proofs.FrontLaws.{front-no, front-is}
 use Rattle.record_read.proofs.BackLaws.{lists-lent, read-short, read-passed, file-no, file-is, all-refused, read-as}
 use Rattle.record_read.proofs.reading.read.Statement.{statement}

@@ -11,7 +11,7 @@ use mir.Syntax.{w32}
 use mir.Val.{toZ, ofZ}
 use Rattle.record_text.specs.declared.line.TextRead.{TextRead}
 use Rattle.record_text.specs.Parsed.{found}
-use Rattle.record_text.specs.Line.{lineOf, numberAt, fourForm, recordNamed}
+use Rattle.record_text.specs.Line.{lineOf, numberAt, fourForm}
 use Rattle.record_text.specs.Printable.{LinePrintable}
 use Rattle.record_text.specs.Told.{lineTold}
 use Rattle.record_text.proofs.LineLaws.{line-codec, printable-at, number-back}

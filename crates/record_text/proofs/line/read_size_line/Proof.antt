@@ -1,5 +1,5 @@
 -- `read_size_line` meets its contract: a line of four fields without a minus.
-use mathlib.Core.Path.{_≡_, sym, _∙_, ap}
+use mathlib.Core.Path.{sym, _∙_, ap}
 use borrow.Author.Needs.{needs}
 use lib.IntN.{natAbs}
 use lib.ListN.{drop}

@@ -2,10 +2,8 @@
 use borrow.Author.Needs.{needs}
 use Prim.Native.Nat.{ℕ}
 use mathlib.Core.Bool.{Bool}
-use mathlib.Core.List.{[], _∷_}
-use mathlib.Core.Path.{_≡_, refl, ap, ap₂, _∙_}
+use mathlib.Core.Path.{refl, ap, ap₂, _∙_}
 use lib.Dec.{eqb}
-use Rattle.arith.specs.Checks.{unless, refusal}
 use Rattle.arith.proofs.CheckLaws.{checked}
 use Rattle.sheet.specs.Checks.{stateRefusalBy}
 use Rattle.record_write.proofs.checks.first_refusal.Statement.{statement}

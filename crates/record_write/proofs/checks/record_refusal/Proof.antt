@@ -1,10 +1,9 @@
 -- `record_refusal` meets its contract, case by case of the record's meaning.
 use borrow.Author.Needs.{needs}
 use mathlib.Core.Bool.{true}
-use mathlib.Core.Path.{_≡_, sym, ap, _∙_}
+use mathlib.Core.Path.{sym, ap, _∙_}
 use Rattle.pattern.specs.Words.{patternsOf}
 use Rattle.record.specs.Told.{meaningTold}
-use Rattle.record.specs.Meaning.{recordMeaning}
 use Rattle.record.proofs.MeaningLaws.{meaning-given, meaning-refused}
 use Rattle.record_write.proofs.checks.record_refusal.Statement.{statement}
 use Rattle.record_write.proofs.checks.record_refusal.Tie as tie

@@ -1,5 +1,5 @@
 -- `neighbours_of` meets its contract: the counts and the first places are those of the block.
-use Prim.Native.Nat.{_+_, _*_, _^_, _<_}
+use Prim.Native.Nat.{_+_, _*_, _<_}
 use mathlib.Core.Path.{refl}
 use native.Mathlib.Omega.{arith}
 use borrow.Author.Needs.{needs}

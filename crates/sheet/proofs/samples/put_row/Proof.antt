@@ -2,7 +2,6 @@
 use Prim.Native.Nat.{ℕ, _-_, _≤_, _<_}
 use mathlib.Core.Path.{_≡_, refl}
 use native.Mathlib.Omega.{arith}
-use borrow.Author.Needs.{needs}
 use lib.ListN.{length, getD, length-set}
 use Rattle.sheet_grid.proofs.SampleLaws.{rowAt, row-none, row-more, row-all}
 use Rattle.sheet.proofs.samples.put_row.Statement.{statement}

@@ -1,5 +1,4 @@
 -- `put_sheet` meets its contract: the sample rows after the lines before them.
-use native.Mathlib.Omega.{arith}
 use borrow.Author.Needs.{needs}
 use Rattle.show_text.proofs.PrintLaws.{rows-room, sheet-written}
 use Rattle.show_text.proofs.printing.put_sheet.Statement.{statement}

@@ -1,15 +1,14 @@
 -- `put_read` meets its contract: what reading answered is a refusal or a sheet, and is printed.
 use borrow.Author.Needs.{needs}
-use mathlib.Core.Path.{sym, _∙_, ap}
+use mathlib.Core.Path.{sym, ap}
 use native.Mathlib.Omega.{arith}
-use lib.ListN.{length, replicate}
+use lib.ListN.{replicate}
 use Rattle.record_text.specs.Lines.{Lined}
 use Rattle.record_print.proofs.WriteSteps.{written-as}
 use Rattle.record_file.specs.Reading.{File, Aids}
 use Rattle.record_file.proofs.LineBounds.{read-below}
 use Rattle.sheet_grid.specs.Grid.{mostSamples, mostBlocks}
 use Rattle.show_text.specs.Showing.{aidsAlone, textBy, readWith}
-use Rattle.show_text.specs.Steps.{SheetFits}
 use Rattle.show_text.proofs.ShowLaws.{back-refused, back-line, SheetBack, back-read}
 use Rattle.show_text.proofs.showing.put_read.Statement.{statement}
 use Rattle.show_text.proofs.showing.put_read.Tie as tie
