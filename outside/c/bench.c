@@ -50,19 +50,18 @@ static int agree(size_t n, uint32_t reach) {
     return 1;
 }
 
-/* Seconds for one choice by each: the mean over the blocks of the least of several rounds. All but the plain loops take all blocks in
-   turn, so that branch prediction does not learn one block. */
+/* Seconds for one choice by each: the mean over the blocks of the least of several rounds. All take a block by turns, so that where the
+   machine is slower for a while it is so for all, and all but the plain loops take all blocks in turn, so that branch prediction does not
+   learn one block. */
 static void choice_times(int built, size_t n, uint32_t reach, double mean[4]) {
     static double least[4][BLOCKS];
     for (int who = BENCH; who <= SAME; who++) for (int i = 0; i < BLOCKS; i++) least[who][i] = 1e9;
-    for (int r = 0; r < 12; r++) for (int who = BENCH; who <= SAME; who++) {
-        int plain = who == PLAIN2 || who == PLAIN3;
-        for (int i = 0; i < (plain ? r < plain_rounds(n) ? plain_blocks(n) : 0 : BLOCKS); i++) {
-            double start = now();
-            check += choose_with(who, built, n, reach, i).cost;
-            double spent = now() - start;
-            if (spent < least[who][i]) least[who][i] = spent;
-        }
+    for (int r = 0; r < 12; r++) for (int i = 0; i < BLOCKS; i++) for (int who = BENCH; who <= SAME; who++) {
+        if ((who == PLAIN2 || who == PLAIN3) && (r >= plain_rounds(n) || i >= plain_blocks(n))) continue;
+        double start = now();
+        check += choose_with(who, built, n, reach, i).cost;
+        double spent = now() - start;
+        if (spent < least[who][i]) least[who][i] = spent;
     }
     for (int who = BENCH; who <= SAME; who++) {
         int blocks = who == PLAIN2 || who == PLAIN3 ? plain_blocks(n) : BLOCKS;
