@@ -12,7 +12,8 @@ use Rattle.arith.specs.Sum.{sumTo}
 unfoldable pub markedSum : (ℕ → ℕ) → ℕ → ℕ → ℕ
 markedSum f w c = sumTo (λ k. cond (testBit w k) (f k) 0) c
 
--- at 256r + b is the sum of those of the samples 8r to 8r + 7 that the byte b marks, for every byte that marks none past the first c samples
+-- at 256r + b is the sum of those of the samples 8r to 8r + 7 that the byte b marks, for every byte that marks none past the first c
+-- samples
 abbrev pub EightSums : ℕ → List ℕ → List ℕ → Type 0
 EightSums c samples l =
     (length l ≡ 8192)
