@@ -70,30 +70,29 @@ static void choice_times(int built, size_t n, uint32_t reach, double mean[4]) {
     }
 }
 
-/* Seconds for a prediction, of a pattern that is another one each time. */
-static double predict_time(int who, size_t n) {
-    double best = 1e9;
+/* Seconds for a prediction by the bench and by the plain loops, by turns, of a pattern that is another one each time. */
+static void predict_times(size_t n, double best[2]) {
     const uint8_t *v = start_of(&table);
-    for (int r = 0; r < 5; r++) {
+    best[BENCH] = best[PLAIN2] = 1e9;
+    for (int r = 0; r < 40; r++) for (int who = BENCH; who <= PLAIN2; who++) {
         double start = now();
-        for (int i = 0; i < 20000; i++) {
+        for (int i = 0; i < 2000; i++) {
             const uint8_t *b = start_of(&borders[i % BLOCKS]);
             uint64_t word[4] = { 0xFFFFFFFF00000000u ^ (uint64_t)i, UINT64_MAX, 0, (uint64_t)i << 40 };
             if (who == BENCH) depth_bench_predict(n, word[0], word[1], word[2], word[3], b, 4 * n, v, table.len, -1, 1, out, n * n);
             else plain_predict_O2(n, word, b, v, table.len, -1, 1, out);
             check += out[i % (n * n)];
         }
-        double spent = (now() - start) / 20000;
-        if (spent < best) best = spent;
+        double spent = (now() - start) / 2000;
+        if (spent < best[who]) best[who] = spent;
     }
-    return best;
 }
 
-/* Seconds for building the list by each; the bench's is the time of depth_bench_pattern_of, which builds it and takes an entry. */
-static double list_time(int who, size_t n) {
+/* Seconds for building the list by each, by turns; the bench's is that of depth_bench_pattern_of, which builds it and takes an entry. */
+static void list_times(size_t n, double best[4]) {
     static uint64_t own[LIST];
-    double best = 1e9;
-    for (int r = 0; r < (n == 16 ? 40 : 400); r++) {
+    for (int who = BENCH; who <= SAME; who++) best[who] = 1e9;
+    for (int r = 0; r < (n == 16 ? 40 : 400); r++) for (int who = BENCH; who <= SAME; who++) {
         double start = now();
         switch (who) {
         case BENCH: check += depth_bench_pattern_of(n, 0, 0, NULL, 0).word[0]; break;
@@ -102,9 +101,8 @@ static double list_time(int who, size_t n) {
         default: check += fast_list(n, own); break;
         }
         double spent = now() - start;
-        if (spent < best) best = spent;
+        if (spent < best[who]) best[who] = spent;
     }
-    return best;
 }
 
 /* A line for each size; whether all lists are the same, the bench's by the patterns of all its entries. */
@@ -119,7 +117,7 @@ static int lists(void) {
             depth_bench_pattern p = depth_bench_pattern_of(n, 0, (uint32_t)k, NULL, 0);
             if ((p.refusal == 0) != (k < found) || (k < found && memcmp(p.word, plain + words * k, 8 * words) != 0)) return 0;
         }
-        for (int who = BENCH; who <= SAME; who++) spent[who] = list_time(who, n);
+        list_times(n, spent);
         printf("| n = %zu, %zu patterns | %.1f | %.1f | %.1f | %.1f | %.4f, %.4f, %.2f |\n", n, found, 1e6 * spent[BENCH],
             1e6 * spent[PLAIN2], 1e6 * spent[PLAIN3], 1e6 * spent[SAME], spent[BENCH] / spent[PLAIN2], spent[BENCH] / spent[PLAIN3],
             spent[BENCH] / spent[SAME]);
@@ -170,9 +168,10 @@ int main(void) {
     }
     for (size_t n = 8; n <= 16; n *= 2) {
         inputs(n, 256);
-        double predict = predict_time(BENCH, n);
-        printf("predict, n = %zu, 256 values: %.2f microseconds, ratio to plain C -O2 %.3f\n", n, 1e6 * predict,
-            predict / predict_time(PLAIN2, n));
+        double spent[2];
+        predict_times(n, spent);
+        printf("predict, n = %zu, 256 values: %.2f microseconds, ratio to plain C -O2 %.3f\n", n, 1e6 * spent[BENCH],
+            spent[BENCH] / spent[PLAIN2]);
     }
     return check == 0;
 }
