@@ -10,7 +10,7 @@ use mir.Val.{SFits}
 use Rattle.arith.specs.Checks.{Answer, refused, given, answer}
 use Rattle.arith.proofs.CheckLaws.{answer-refused, answer-given, given-means, refused-means}
 use Rattle.choice.specs.Offset.{offset}
-use Rattle.choice.specs.Case.{Case}
+use Rattle.choice.specs.Case.{Case, reachInUse}
 use Rattle.choice.specs.Refusal.{chooseRefusal}
 use Rattle.record.specs.declared.Record.{Record}
 use Rattle.choice.specs.Search.{trialCost, bestTrial, bestCost, patternAt, recordBy, recordAt, chosen, tried}
@@ -30,7 +30,7 @@ offset-fits t h = go (eqb (t % 2) 0)
 module _ (C : Case) where
   -- numbers of offsets in a reach of at most 255
   best-small : (w : ℕ) (m : Bool) → C .reach ≤ 255 → bestTrial C w m < 512
-  best-small w m h = omega (arith, trial-best (trialCost C w m) (2 * C .reach) .within)
+  best-small w m h = omega (arith, trial-best (trialCost C w m) (2 * reachInUse C) .within)
 
   module _ {p a b c t : ℕ} (q : PickedOf C p a b c t) where
     pub picked-small : C .reach ≤ 255 → (a < 512) × (b < 512)

@@ -10,11 +10,11 @@ use Rattle.arith.specs.Checks.{answer}
 use Rattle.arith.specs.Least.{First}
 use Rattle.arith.proofs.LeastLaws.{leastTo-first}
 use Rattle.choice.specs.Offset.{InReach, trial, offset}
-use Rattle.choice.specs.Case.{Case}
+use Rattle.choice.specs.Case.{Case, reachInUse}
 use Rattle.pattern.specs.Answer.{textured}
 use Rattle.choice.specs.Refusal.{chooseRefusal}
 use Rattle.choice.proofs.AcceptLaws.{accepted}
-use Rattle.choice.specs.Record.{PatternIn, Within, patternOf, costOf, Before, LeastRecord, OneLeast}
+use Rattle.choice.specs.Record.{PatternIn, Within, patternOf, costOf, Before, LeastWithin, LeastRecord, OneLeast}
 use Rattle.record.specs.declared.Record.{Record}
 use Rattle.choice.specs.Search.{trialCost, bestTrial, bestCost, patternAt, lastPattern, bestPattern, recordAt, chosen}
 use Rattle.choice.specs.Trial.{trialOver}
@@ -47,8 +47,8 @@ module _ (C : Case) where
       omega (
         arith,
         cost-numbers r h,
-        parts-least (trialCost C w false) (trialCost C w true) (2 * C .reach) (trial (r .off0)) (trial (r .off1))
-            (trial-in (C .reach) (r .off0) (h .off0-in)) (trial-in (C .reach) (r .off1) (h .off1-in)),
+        parts-least (trialCost C w false) (trialCost C w true) (2 * reachInUse C) (trial (r .off0)) (trial (r .off1))
+            (trial-in (reachInUse C) (r .off0) (h .off0-in)) (trial-in (reachInUse C) (r .off1) (h .off1-in)),
       )
 
   -- and one whose offsets come before them costs more
@@ -64,8 +64,8 @@ module _ (C : Case) where
       omega (
         arith,
         cost,
-        parts-first (trialCost C w false) (trialCost C w true) (2 * C .reach) (trial (r .off0)) (trial (r .off1))
-            (trial-in (C .reach) (r .off0) (h .off0-in)) (trial-in (C .reach) (r .off1) (h .off1-in)) before,
+        parts-first (trialCost C w false) (trialCost C w true) (2 * reachInUse C) (trial (r .off0)) (trial (r .off1))
+            (trial-in (reachInUse C) (r .off0) (h .off0-in)) (trial-in (reachInUse C) (r .off1) (h .off1-in)) before,
       )
 
   -- a record that comes before the record of pattern p, by numbers
@@ -106,10 +106,10 @@ module _ (C : Case) where
     best-either : (best < C .count) ⊎ ((best ≡ C .count) × (0 < length (C .texture)))
     best-either = number-either C some best (omega (arith, best-is .within))
 
-    offset-within : (m : Bool) → InReach (C .reach) (offset (bestTrial C (patternAt C best) m))
+    offset-within : (m : Bool) → InReach (reachInUse C) (offset (bestTrial C (patternAt C best) m))
     offset-within m =
         let t = trialCost C (patternAt C best) m in
-        in-offset (C .reach) (trialOver t (2 * C .reach) .0) (omega (arith, trial-best t (2 * C .reach) .within))
+        in-offset (reachInUse C) (trialOver t (2 * reachInUse C) .0) (omega (arith, trial-best t (2 * reachInUse C) .within))
 
     chosen-within : Within C (recordAt C best)
     chosen-within = record { pattern-in = at-in C best best-either; off0-in = offset-within false; off1-in = offset-within true }
@@ -137,10 +137,11 @@ pub same-record :
 same-record k e a b p q r s = λ i. record { kind = p i; entry = q i; off0 = r i; off1 = s i }
 
 module _ (C : Case) where
-  clash : {r s : Record} {c d : ℕ} → LeastRecord C r c → LeastRecord C s d → Before r s → ⊥
-  clash {r} {s} x y h = omega (arith, x .its-cost, y .its-cost, x .least s (y .within), y .first r (x .within) h)
+  clash : {R : ℕ} {r s : Record} {c d : ℕ} → LeastWithin R C r c → LeastWithin R C s d → Before r s → ⊥
+  clash {r = r} {s = s} x y h = omega (arith, x .its-cost, y .its-cost, x .least s (y .within), y .first r (x .within) h)
 
-  pub least-unique : (r s : Record) (c d : ℕ) → LeastRecord C r c → LeastRecord C s d → (r ≡ s) × (c ≡ d)
+  -- whatever the reach
+  pub least-unique : {R : ℕ} (r s : Record) (c d : ℕ) → LeastWithin R C r c → LeastWithin R C s d → (r ≡ s) × (c ≡ d)
   least-unique r s c d x y =
       let k1 : r .kind < s .kind → ⊥ = λ l. clash x y (inl l) in
       let k2 : s .kind < r .kind → ⊥ = λ l. clash y x (inl l) in

@@ -1,5 +1,5 @@
 -- Offsets and their numbers 0, 1, 2, ..: one for one, in the order between equals, the reach R being the numbers 0 .. 2R.
-use Prim.Native.Nat.{ℕ, suc, _+_, _*_, _/_, _%_, _≤_, _<_}
+use Prim.Native.Nat.{ℕ, suc, _+_, _-_, _*_, _/_, _%_, _≤_, _<_, min}
 use mathlib.Core.Path.{_≡_, refl, sym, ap, _∙_}
 use mathlib.Core.Bool.{Bool, true, false, cond}
 use mathlib.Core.Logic.{inl, inr, ⊎-elim}
@@ -43,6 +43,13 @@ in-trial R (negsuc k) h = omega arith
 
 pub in-offset : (R t : ℕ) → t ≤ 2 * R → InReach R (offset t)
 in-offset R t h = in-trial R (offset t) (rw trial-offset h)
+
+-- a reach below the count is the one in use, and one in use stays so
+pub reach-same : (R count : ℕ) → R < count → R ≡ min R (count - 1)
+reach-same R count h = omega arith
+
+pub reach-again : (R last : ℕ) {near : ℕ} → near ≡ min R last → min near last ≡ min R last
+reach-again R last e = omega arith
 
 -- the one that comes first has the lower number, and the other way round
 pub sooner-trial : (a b : ℤ) → Sooner a b → trial a < trial b

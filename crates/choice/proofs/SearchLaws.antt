@@ -14,31 +14,40 @@ use Rattle.arith.specs.Checks.{Answer, refused, given}
 use Rattle.arith.proofs.BitLaws.{bits-ext, bits-none}
 use Rattle.arith.proofs.CheckLaws.{given-means, refused-means}
 use Rattle.arith.proofs.LeastLaws.{Kept, kept-one, kept-new, kept-old, kept-all}
+use Rattle.depth_table.proofs.TableLaws.{table-counts}
 use Rattle.pattern.specs.Size.{sizeOk, wordOk}
 use Rattle.pattern.specs.Answer.{samplesRefusal, contourAnswer}
 use Rattle.pattern.specs.Contour.{threshold, contourOf}
 use Rattle.pattern.proofs.ContourLaws.{contour-lt}
 use Rattle.prediction.proofs.SideCallLaws.{sides-pass}
-use Rattle.choice.specs.Trial.{TrialOf, triedBy}
-use Rattle.choice.specs.Case.{Case}
+use Rattle.choice.specs.Trial.{trialOver, TrialOf, triedBy}
+use Rattle.choice.specs.Case.{Case, reachInUse}
 use Rattle.choice.proofs.AcceptLaws.{Accepted, words-at}
+use Rattle.choice.proofs.OffsetLaws.{reach-again}
 use Rattle.choice.proofs.TrialLaws.{best-told, tried-told}
 use Rattle.choice.specs.Search.{trialCost, bestCost, triedAt, patternAt, lastPattern, bestPattern, triedTo, tried}
 use Rattle.choice.specs.Picked.{blockCase, Weighable, SidesOf, PickedOf}
 
 -- ---- one pattern
 
--- a pattern's cost does not depend on the other patterns
+-- a pattern's cost depends on the reach in use, and not on the other patterns
 pub sides-at :
-    (C : Case) (p : ℕ) {w a b c : ℕ} → w ≡ patternAt C p → SidesOf (blockCase (C .n) (C .neighbours) (C .original) (C .table) (C .reach)) w a b c
-    → SidesOf C (patternAt C p) a b c
+    (C : Case) (p : ℕ) {w near a b c : ℕ} → w ≡ patternAt C p → near ≡ reachInUse C
+    → SidesOf (blockCase (C .n) (C .neighbours) (C .original) (C .table) near) w a b c → SidesOf C (patternAt C p) a b c
 unfolding bestCost
-sides-at C p {w} {a} {b} {c} e q =
-    subst (λ (x : ℕ). SidesOf C x a b c) e (record { first = q .first; second = q .second; its-cost = q .its-cost })
+sides-at C p {w} {a = a} {b = b} {c = c} e k q =
+    let u = reach-again (C .reach) (length (C .table) - 1) k in
+    let best : Bool → ℕ → ℕ = λ m R. trialOver (trialCost C w m) (2 * R) .0 in
+    subst (λ (x : ℕ). SidesOf C x a b c) e
+    (record {
+      first = q .first ∙ ap (best false) u;
+      second = q .second ∙ ap (best true) u;
+      its-cost = q .its-cost ∙ ap (λ (R : ℕ). trialCost C w false (best false R) + trialCost C w true (best true R)) u;
+    })
 
 -- both partitions together
 module _ (C : Case) (w : ℕ) {a b c d : ℕ} where
-  module _ (p : TrialOf (trialCost C w false) (2 * C .reach) a c) (q : TrialOf (trialCost C w true) (2 * C .reach) b d) where
+  module _ (p : TrialOf (trialCost C w false) (2 * reachInUse C) a c) (q : TrialOf (trialCost C w true) (2 * reachInUse C) b d) where
     pub both-sides : SidesOf C w a b (c + d)
     unfolding bestCost
     both-sides =
@@ -51,9 +60,10 @@ module _ (C : Case) (w : ℕ) {a b c d : ℕ} where
         }
 
     -- and how many offsets are tried for them
-    pub both-tried : {s t : ℕ} → s ≡ triedBy a c (2 * C .reach) → t ≡ triedBy b d (2 * C .reach) → s + t ≡ triedAt C w
+    pub both-tried : {R s t : ℕ} → R ≡ reachInUse C → s ≡ triedBy a c (2 * R) → t ≡ triedBy b d (2 * R) → s + t ≡ triedAt C w
     unfolding triedAt
-    both-tried e f = ap₂ _+_ (e ∙ tried-told p) (f ∙ tried-told q)
+    both-tried u e f =
+        ap₂ _+_ (e ∙ ap (λ (x : ℕ). triedBy a c (2 * x)) u ∙ tried-told p) (f ∙ ap (λ (x : ℕ). triedBy b d (2 * x)) u ∙ tried-told q)
 
 -- ---- the contour
 
@@ -100,13 +110,14 @@ module _ (C : Case) (k : Accepted C) where
   pattern-inside p (yes l) = rw (lt-ltb p (C .count) l) (words-at (C .n) (C .list) (C .count) (k .words) p l)
   pattern-inside p (no l) = rw (le-ltb p (C .count) (omega arith)) (lt-ltb _ _ (contour-lt (C .n) (C .texture)))
 
-  pub weighable : (p w : ℕ) → w ≡ patternAt C p → Weighable (C .n) w (C .neighbours) (C .original) (C .table) (C .reach)
-  weighable p w e =
+  pub weighable :
+      (p : ℕ) {w near : ℕ} → w ≡ patternAt C p → near ≡ reachInUse C → Weighable (C .n) w (C .neighbours) (C .original) (C .table) near
+  weighable p {w} e u =
       record {
         sides = sides-pass (C .n) w (C .neighbours) (k .size) (k .lengths .bordered) (rw e (pattern-inside p (decLt p (C .count))));
         square = k .lengths .square;
         sound = k .sound;
-        near = k .near;
+        near = omega (arith, table-counts (C .table) (k .sound));
       }
 
 -- ---- the loop

@@ -1,16 +1,19 @@
 -- How many offsets are tried: by places, for one pattern, and at most.
-use Prim.Native.Nat.{ℕ, _+_, _*_, _≤_, _<_}
+use Prim.Native.Nat.{ℕ, _+_, _-_, _*_, _≤_, _<_}
 use mathlib.Core.Path.{_≡_, refl, ap, ap₂, _∙_}
 use mathlib.Core.Bool.{Bool, true, false}
 use mathlib.Core.Logic.{inl}
 use native.Mathlib.Omega.{arith}
 use native.Mathlib.Numerals.{add-one}
+use lib.ListN.{length}
 use Rattle.arith.specs.Sum.{sumTo}
 use Rattle.arith.proofs.Sums.{sum-ext, sum-le, sum-none}
-use Rattle.choice.specs.Case.{Case}
+use Rattle.choice.specs.Case.{Case, reachInUse}
 use Rattle.choice.specs.Cost.{belongs, sideCost}
 use Rattle.choice.specs.Search.{trialCost, triedFor, triedAt, patternAt, lastPattern, triedTo, tried, TriedInAll}
 use Rattle.choice.specs.Picked.{blockCase}
+use Rattle.choice.specs.Trial.{trialOver}
+use Rattle.choice.proofs.OffsetLaws.{reach-again}
 use Rattle.choice.proofs.TrialLaws.{trial-tried, tried-one, tried-most}
 
 module _ (C : Case) where
@@ -20,7 +23,7 @@ module _ (C : Case) where
   tried-in-all =
       record {
         places = λ p m. triedFor C (patternAt C p) m;
-        each = λ p m. trial-tried (trialCost C (patternAt C p) m) (2 * C .reach);
+        each = λ p m. trial-tried (trialCost C (patternAt C p) m) (2 * reachInUse C);
         added = refl;
       }
 
@@ -29,7 +32,7 @@ module _ (C : Case) where
   unfolding tried triedAt
   tried-only {count} q =
       let here : (p : ℕ) (m : Bool) → q .places p m ≡ triedFor C (patternAt C p) m =
-      λ p m. tried-one (trialCost C (patternAt C p) m) (2 * C .reach) (q .each p m) (trial-tried (trialCost C (patternAt C p) m) (2 * C .reach)) in
+      λ p m. tried-one (trialCost C (patternAt C p) m) (2 * reachInUse C) (q .each p m) (trial-tried (trialCost C (patternAt C p) m) (2 * reachInUse C)) in
       q .added ∙ sum-ext _ _ (lastPattern C + 1) (λ p l. ap₂ _+_ (here p false) (here p true))
 
   -- a partition without samples costs 0 at the first offset, and its trial ends there
@@ -39,15 +42,17 @@ module _ (C : Case) where
   tried-empty w m none =
       let f = trialCost C w m in
       let free : f 0 ≡ 0 = sum-ext _ (λ _. 0) (C .n * C .n) (λ k l. rw (none k l)) ∙ sum-none (C .n * C .n) in
-      tried-one f (2 * C .reach) (trial-tried f (2 * C .reach))
+      tried-one f (2 * reachInUse C) (trial-tried f (2 * reachInUse C))
       (inl (record { last = 0; place = refl; inside = omega arith; free = free; none-before = λ t l. omega arith }))
 
-  -- of a pattern: it does not depend on the other patterns
+  -- of a pattern: it depends on the reach in use, and not on the other patterns
   pub tried-here :
-      (p : ℕ) {w count : ℕ} → w ≡ patternAt C p
-      → count ≡ triedAt (blockCase (C .n) (C .neighbours) (C .original) (C .table) (C .reach)) w → count ≡ triedAt C (patternAt C p)
+      (p : ℕ) {w near count : ℕ} → w ≡ patternAt C p → near ≡ reachInUse C
+      → count ≡ triedAt (blockCase (C .n) (C .neighbours) (C .original) (C .table) near) w → count ≡ triedAt C (patternAt C p)
   unfolding triedAt
-  tried-here p {w} {count} e q = q ∙ ap (triedAt C) e
+  tried-here p {w} e k q =
+      let side : Bool → ℕ → ℕ = λ m R. trialOver (trialCost C w m) (2 * R) .1 in
+      q ∙ ap (λ (R : ℕ). side false R + side true R) (reach-again (C .reach) (length (C .table) - 1) k) ∙ ap (triedAt C) e
 
   -- before the first pattern, and one more
   pub tried-none : 0 ≡ triedTo C 0
@@ -60,7 +65,7 @@ module _ (C : Case) where
 
   module _ (near : C .reach ≤ 255) where
     side-few : (w : ℕ) (m : Bool) → triedFor C w m ≤ 511
-    side-few w m = omega (arith, tried-most (trialCost C w m) (2 * C .reach) (trial-tried (trialCost C w m) (2 * C .reach)))
+    side-few w m = omega (arith, tried-most (trialCost C w m) (2 * reachInUse C) (trial-tried (trialCost C w m) (2 * reachInUse C)))
 
     -- at most 511 a partition
     pub tried-few : (w : ℕ) → triedAt C w ≤ 1022

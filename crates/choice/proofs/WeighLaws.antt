@@ -1,7 +1,7 @@
 -- What follows for a pattern that is weighed: the index of each partition's depth, and its best offset from that of its
 -- samples as a pattern.
 use Prim.Native.Nat.{ℕ, _-_, _*_, _^_, _≤_, _<_}
-use mathlib.Core.Path.{_≡_, sym, ap, _∙_}
+use mathlib.Core.Path.{_≡_, sym, ap, subst, _∙_}
 use mathlib.Core.Bool.{Bool, true, false, cond}
 use mathlib.Core.List.{List}
 use native.Mathlib.Omega.{arith}
@@ -16,6 +16,7 @@ use Rattle.prediction.specs.Sides.{sideDepth}
 use Rattle.prediction.proofs.SideCallLaws.{sides-accepted}
 use Rattle.depth_table.specs.Offset.{levelOf}
 use Rattle.choice.specs.Offset.{offset}
+use Rattle.choice.specs.Case.{reachInUse}
 use Rattle.choice.specs.Cost.{sideCost}
 use Rattle.choice.specs.Layers.{layerAt, belowWord, Parted}
 use Rattle.choice.specs.Sums.{markedSum}
@@ -29,9 +30,17 @@ use Rattle.choice.proofs.TrialLaws.{trial-of-same}
 use Rattle.choice.specs.Cases.{sideCase, depthIn}
 use Rattle.choice.specs.Search.{trialCost}
 use Rattle.choice.specs.Picked.{blockCase, Weighable, Prepared}
+use Rattle.choice.proofs.OffsetLaws.{reach-same}
 use Rattle.choice.proofs.CaseLaws.{depth-case}
 
 module _ (n w : ℕ) (s o t : List ℕ) (R : ℕ) (h : Weighable n w s o t R) where
+  -- the reach is at most 255, and in use
+  pub reach-few : R ≤ 255
+  reach-few = omega (arith, h .near, table-counts t (h .sound))
+
+  pub reach-used : R ≡ reachInUse (blockCase n s o t R)
+  reach-used = reach-same R (length t) (h .near)
+
   module _ (below sums indices : List ℕ) (q : Prepared n s o t below sums indices) (bytes : (k : ℕ) → getD o k 0 < 256) where
     -- the word marks samples of the block only
     pub word-small : w < 2 ^ length o
@@ -77,7 +86,7 @@ module _ (n w : ℕ) (s o t : List ℕ) (R : ℕ) (h : Weighable n w s o t R) wh
       part-is = ep ∙ ap (λ (x : ℕ). cond m w (bitXor x w)) (q .layers .below-at 256 (omega arith))
 
       pub findable : Findable t i R
-      findable = record { sound = h .sound; inside = rw index-is (index-below t (sideDepth n w s m) (table-counts t (h .sound) .0)); near = h .near }
+      findable = record { sound = h .sound; inside = rw index-is (index-below t (sideDepth n w s m) (table-counts t (h .sound) .0)); near = reach-few }
 
       -- the cost of the part at the offset is the cost of the partition
       cost-there : (k : ℕ) → offsetCost o part true t i k ≡ trialCost (blockCase n s o t R) w m k
@@ -89,5 +98,7 @@ module _ (n w : ℕ) (s o t : List ℕ) (R : ℕ) (h : Weighable n w s o t R) wh
           ∙ ap (λ (x : ℕ). sideCost (n * n) o w m (getD t (clamped (length t) x (offset k)) 0)) index-is
 
       pub trial-weighed :
-          {number cost : ℕ} → TrialOf (offsetCost o part true t i) (2 * R) number cost → TrialOf (trialCost (blockCase n s o t R) w m) (2 * R) number cost
-      trial-weighed p = trial-of-same cost-there p
+          {number cost : ℕ} → TrialOf (offsetCost o part true t i) (2 * R) number cost
+          → TrialOf (trialCost (blockCase n s o t R) w m) (2 * reachInUse (blockCase n s o t R)) number cost
+      trial-weighed {number} {cost} p =
+          subst (λ (x : ℕ). TrialOf (trialCost (blockCase n s o t R) w m) (2 * x) number cost) reach-used (trial-of-same cost-there p)

@@ -1,6 +1,7 @@
 -- Document 01, "Choice": what a choice is given.
-use Prim.Native.Nat.{ℕ}
+use Prim.Native.Nat.{ℕ, _-_, min}
 use mathlib.Core.List.{List}
+use lib.ListN.{length}
 
 -- what a choice is given: the size, the wedgelet list (document 01: the edge list) and its count, the neighbours (the border), the
 -- original samples, the depth table, the reach, and texture samples; no texture is the empty list
@@ -13,6 +14,11 @@ pub record Case : Type 0 where
   pub table : List ℕ
   pub reach : ℕ
   pub texture : List ℕ
+
+-- Document 02, Ask 4: the reach in use, the smaller of the one given and table count - 1, so that only offsets that the table can use are
+-- tried
+abbrev pub reachInUse : Case → ℕ
+reachInUse C = min (C .reach) (length (C .table) - 1)
 
 abbrev pub caseOf : ℕ → List ℕ → ℕ → List ℕ → List ℕ → List ℕ → ℕ → List ℕ → Case
 caseOf n list count neighbours original table reach texture =

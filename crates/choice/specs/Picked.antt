@@ -1,5 +1,5 @@
 -- What the search answers step by step: the best offsets of a pattern, and the best pattern.
-use Prim.Native.Nat.{ℕ, _*_, _≤_, _<_}
+use Prim.Native.Nat.{ℕ, _*_, _<_}
 use mathlib.Core.Path.{_≡_}
 use mathlib.Core.Bool.{true, false}
 use mathlib.Core.List.{List, []}
@@ -20,7 +20,7 @@ pub record Weighable (n w : ℕ) (neighbours original table : List ℕ) (reach :
   pub sides : sidesRefusal n w neighbours ≡ 0
   pub square : length original ≡ n * n
   pub sound : tableOk table ≡ true
-  pub near : reach ≤ 255
+  pub near : reach < length table
 
 -- the index of the depth in each of the first m cases
 abbrev pub CaseIndices : ℕ → ℕ → List ℕ → List ℕ → List ℕ → Type 0

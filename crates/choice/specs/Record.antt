@@ -13,17 +13,21 @@ use Rattle.record.specs.declared.Record.{Record}
 use Rattle.record.specs.Meaning.{kindMeaning, patternNamed}
 use Rattle.prediction.specs.Block.{predicted}
 use Rattle.choice.specs.Offset.{InReach, Sooner}
-use Rattle.choice.specs.Case.{Case}
+use Rattle.choice.specs.Case.{Case, reachInUse}
 
 -- kind 0 with an entry below the count; kind 1, the contour (document 01: the outline), entry 0, if texture is lent
 abbrev pub PatternIn : Case → ℕ → ℕ → Type 0
 PatternIn C kind entry = ((kind ≡ 0) × (entry < C .count)) ⊎ ((kind ≡ 1) × (entry ≡ 0) × (0 < length (C .texture)))
 
--- the records within the reach, tried or not
-pub record Within (C : Case) (r : Record) : Type 0 where
+-- the records within the reach R, tried or not
+pub record WithinReach (R : ℕ) (C : Case) (r : Record) : Type 0 where
   pub pattern-in : PatternIn C (r .kind) (r .entry)
-  pub off0-in : InReach (C .reach) (r .off0)
-  pub off1-in : InReach (C .reach) (r .off1)
+  pub off0-in : InReach R (r .off0)
+  pub off1-in : InReach R (r .off1)
+
+-- those within the reach in use
+abbrev pub Within : Case → Record → Type 0
+Within C r = WithinReach (reachInUse C) C r
 
 -- a record's pattern: the one that its kind and entry name, an entry of the list or the contour of the texture
 abbrev pub patternBy : Case → ℕ → ℕ → ℕ
@@ -56,12 +60,17 @@ Before r s =
     × ((r .entry < s .entry)
     ⊎ ((r .entry ≡ s .entry) × (Sooner (r .off0) (s .off0) ⊎ ((r .off0 ≡ s .off0) × Sooner (r .off1) (s .off1))))))
 
--- the record is the chosen one, and the cost is its own: no record within the reach costs less, and each one before it costs more
-pub record LeastRecord (C : Case) (r : Record) (cost : ℕ) : Type 0 where
-  pub within : Within C r
+-- the record is the first of least cost within the reach R, and the cost is its own: no record within R costs less, and each one before it
+-- costs more
+pub record LeastWithin (R : ℕ) (C : Case) (r : Record) (cost : ℕ) : Type 0 where
+  pub within : WithinReach R C r
   pub its-cost : cost ≡ costOf C r
-  pub least : (s : Record) → Within C s → cost ≤ costOf C s
-  pub first : (s : Record) → Within C s → Before s r → cost < costOf C s
+  pub least : (s : Record) → WithinReach R C s → cost ≤ costOf C s
+  pub first : (s : Record) → WithinReach R C s → Before s r → cost < costOf C s
+
+-- the record is the chosen one: that within the reach in use
+abbrev pub LeastRecord : Case → Record → ℕ → Type 0
+LeastRecord C r cost = LeastWithin (reachInUse C) C r cost
 
 -- exactly one record is the chosen one, at one cost
 pub record OneLeast (C : Case) : Type 0 where

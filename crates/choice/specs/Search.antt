@@ -1,5 +1,6 @@
 -- Document 01, "Choice", as a function: the cost of a record is what partition 0 costs at off0 and what partition 1 costs at off1, so
--- each offset is chosen for itself, and then the pattern. Document 02, Ask 3: how many offsets are tried.
+-- each offset is chosen for itself, and then the pattern. Document 02, Asks 3 and 4: how many offsets are tried, of those in the reach in
+-- use.
 use Prim.Native.Nat.{ℕ, _+_, _-_, _*_}
 use mathlib.Core.Path.{_≡_}
 use mathlib.Core.Bool.{Bool, true, false, cond}
@@ -13,7 +14,7 @@ use Rattle.depth_table.specs.Offset.{levelOf}
 use Rattle.choice.specs.Offset.{offset}
 use Rattle.choice.specs.Cost.{sideCost}
 use Rattle.choice.specs.Trial.{trialOver, Tried}
-use Rattle.choice.specs.Case.{Case}
+use Rattle.choice.specs.Case.{Case, reachInUse}
 use Rattle.pattern.specs.Answer.{textured}
 use Rattle.record.specs.declared.Record.{Record}
 
@@ -24,11 +25,11 @@ trialCost C w m t =
 
 -- the number of its offset: the first of least cost, which a trial finds that ends where an offset costs 0
 abbrev pub bestTrial : Case → ℕ → Bool → ℕ
-bestTrial C w m = trialOver (trialCost C w m) (2 * C .reach) .0
+bestTrial C w m = trialOver (trialCost C w m) (2 * reachInUse C) .0
 
 -- how many offsets that trial tries
 abbrev pub triedFor : Case → ℕ → Bool → ℕ
-triedFor C w m = trialOver (trialCost C w m) (2 * C .reach) .1
+triedFor C w m = trialOver (trialCost C w m) (2 * reachInUse C) .1
 
 -- the least cost of a pattern
 unfoldable pub bestCost : Case → ℕ → ℕ
@@ -72,5 +73,5 @@ tried C = triedTo C (lastPattern C + 1)
 -- the same by places: `places p m` is the one at which the trial of partition m of pattern p ends, and all are added
 pub record TriedInAll (C : Case) (count : ℕ) : Type 0 where
   pub places : ℕ → Bool → ℕ
-  pub each : (p : ℕ) (m : Bool) → Tried (trialCost C (patternAt C p) m) (2 * C .reach) (places p m)
+  pub each : (p : ℕ) (m : Bool) → Tried (trialCost C (patternAt C p) m) (2 * reachInUse C) (places p m)
   pub added : count ≡ sumTo (λ p. places p false + places p true) (lastPattern C + 1)

@@ -2,7 +2,7 @@
 ghost use mathlib.Core.Path.{_≡_};
 ghost use mathlib.Core.Bool.{true, cond};
 ghost use mathlib.Core.Logic.{_⊎_};
-ghost use Prim.Native.Nat.{_-_, _*_, _<_, _≤_};
+ghost use Prim.Native.Nat.{_-_, _*_, _<_, _≤_, min};
 ghost use lib.Dec.{ltb};
 ghost use lib.ListN.{length, getD};
 ghost use Rattle.pattern.specs.Answer.{samplesRefusal};
@@ -32,6 +32,7 @@ use depth_table::DepthValue;
 use depth_table::Indexed;
 use pattern::Contoured;
 use pattern::Pattern;
+use pattern::lesser;
 
 // The index of a depth.
 fn index_in(table: &[u8], d: DepthValue) -> usize
@@ -65,6 +66,14 @@ fn tried_by(best: Trial, reach: usize) -> u32
         return best.number as u32 + 1;
     }
     2 * reach as u32 + 1
+}
+
+// The reach in use: the lesser of the one given and the number of table values less one.
+fn reach_in_use(reach: usize, values: usize) -> usize
+    requires { ⌜ 1 ≤ values ⌝ }
+    ensures { λ r. ⌜ r ≡ min reach (values - 1) ⌝ }
+{
+    lesser(reach, values - 1)
 }
 
 // The numbers of the best offsets of both partitions of a pattern, what it costs there, and how many offsets were tried.
@@ -196,6 +205,7 @@ pub(crate) fn best_pattern(
     let sums = eight_sums(original);
     let indices = case_indices(n, border, table);
     let contour = contour_or_none(n, texture);
+    let near = reach_in_use(reach, table.len());
     let end = last_pattern(count, texture.len()) + 1;
     let mut at: usize = 0;
     let mut best = Sides {
@@ -212,7 +222,7 @@ pub(crate) fn best_pattern(
             border,
             original,
             table,
-            reach,
+            near,
             &below,
             &sums,
             &indices,

@@ -7,9 +7,10 @@ use native.Mathlib.Omega.{arith}
 use borrow.Author.Needs.{needs}
 use lib.Dec.{ltb}
 use lib.ListN.{length}
+use Rattle.depth_table.proofs.TableLaws.{table-counts}
 use Rattle.pattern.specs.Words.{patternNumber, patternsOf}
 use Rattle.pattern.proofs.SizeLaws.{size-bounds, square-256}
-use Rattle.choice.specs.Case.{Case, caseOf}
+use Rattle.choice.specs.Case.{Case, reachInUse, caseOf}
 use Rattle.choice.proofs.AcceptLaws.{Accepted, accepted}
 use Rattle.choice.specs.Picked.{Prepared}
 use Rattle.choice.specs.Search.{triedAt, patternAt, triedTo}
@@ -19,12 +20,12 @@ use Rattle.choice.proofs.search.best_pattern.Statement.{statement}
 use Rattle.choice.proofs.search.best_pattern.Tie as tie
 
 abbrev Inv-loop : tie.InvT-loop
-Inv-loop n list count border original table reach texture below sums indices contour end at₀ best₀ tried₀ p₀ at best tried p =
+Inv-loop n list count border original table reach texture below sums indices contour near end at₀ best₀ tried₀ p₀ at best tried p =
     let C = caseOf n (patternsOf n list) count border original table reach texture in
     (p ≤ end) × (end ≤ 10000) × SidesSoFar C p at (best .trial0) (best .trial1) (best .cost) × (tried ≡ triedTo C p)
 
 abbrev μ-loop : tie.MeasureT-loop
-μ-loop n list count border original table reach texture below sums indices contour end at₀ best₀ tried₀ p₀ at best tried p = end - p
+μ-loop n list count border original table reach texture below sums indices contour near end at₀ best₀ tried₀ p₀ at best tried p = end - p
 
 -- the case, and that it is not refused
 abbrev given : (c : tie.Start Inv-loop μ-loop) → Case
@@ -67,17 +68,25 @@ prepared c =
 contour-or-none-requires : tie.Need-contour-or-none-requires Inv-loop μ-loop
 contour-or-none-requires c κs = let k = fine (c .before .before .before .before .before .before .before .before) in texture-judged _ _ (k .size) (k .lengths .optional)
 
+-- a sound table has a value
+reach-in-use-requires : tie.Need-reach-in-use-requires Inv-loop μ-loop
+reach-in-use-requires c κs = table-counts _ (fine (c .before .before .before .before .before .before .before .before .before) .sound) .0
+
 add-end : tie.Need-add-end Inv-loop μ-loop
-add-end c = omega (arith, room (c .before .before .before .before .before .before .before .before .before .before) (c .last-pattern .ensures))
+add-end c = omega (arith, room (c .before .before .before .before .before .before .before .before .before .before .before) (c .last-pattern .ensures))
 
 loop-holds : tie.Need-loop-holds Inv-loop μ-loop
 loop-holds c =
-    let s = c .before .before .before .before .before .before .before .before .before .before in
+    let s = c .before .before .before .before .before .before .before .before .before .before .before in
     (omega arith, room s (c .last-pattern .ensures), inl (refl, refl), tried-none (given s))
 
 -- what stands before a turn of the loop
 abbrev start : tie.At-loop Inv-loop μ-loop → tie.Start Inv-loop μ-loop
-start l = l .before .before .before .before .before .before .before .before .before .before .before
+start l = l .before .before .before .before .before .before .before .before .before .before .before .before
+
+-- the reach in use
+in-use : (l : tie.At-loop Inv-loop μ-loop) → l .before .before .reach-in-use .result ≡ reachInUse (given (start l))
+in-use l = l .before .before .reach-in-use .ensures
 
 -- the pattern of the turn
 its-pattern :
@@ -85,13 +94,13 @@ its-pattern :
     → let l = c .before .before in patternNumber (c .pattern-by .result) ≡ patternAt (given (start l)) (l .loop .p)
 its-pattern c =
     let l = c .before .before in
-    pattern-by (given (start l)) (l .loop .p) (c .pattern-by .ensures) (l .before .before .contour-or-none .ensures)
+    pattern-by (given (start l)) (l .loop .p) (c .pattern-by .ensures) (l .before .before .before .contour-or-none .ensures)
 
 best-sides-requires : tie.Need-best-sides-requires Inv-loop μ-loop
 best-sides-requires c κs =
     let b = c .before .before .before in
     let l = b .before .before in
-    (weighable (given (start l)) (fine (start l)) (l .loop .p) _ (its-pattern b), prepared (l .before .before .before))
+    (weighable (given (start l)) (fine (start l)) (l .loop .p) (its-pattern b) (in-use l), prepared (l .before .before .before .before))
 
 -- how many are tried for it
 tried-next :
@@ -101,7 +110,7 @@ tried-next :
 tried-next c =
     let b = c .before .before .before .before in
     let l = b .before .before in
-    tried-here (given (start l)) (l .loop .p) (its-pattern b) (c .best-sides .ensures .1)
+    tried-here (given (start l)) (l .loop .p) (its-pattern b) (in-use l) (c .best-sides .ensures .1)
 
 add-tried : tie.Need-add-tried Inv-loop μ-loop
 add-tried c =
@@ -117,7 +126,7 @@ loop-again c =
     let l = b .before .before in
     let C = given (start l) in
     let inv = l .loop .inv in
-    let next = sides-at C (l .loop .p) (its-pattern b) (n .best-sides .ensures .0) in (
+    let next = sides-at C (l .loop .p) (its-pattern b) (in-use l) (n .best-sides .ensures .0) in (
       omega arith,
       inv .1,
       ⊎-elim
@@ -137,4 +146,4 @@ returns c =
 pub best-pattern-spec : {M : Type 1} → statement M
 best-pattern-spec =
     tie.close (tie.spec Inv-loop μ-loop below-layers-requires eight-sums-requires case-indices-requires contour-or-none-requires
-    (λ c κs. tt) add-end loop-holds (λ c κs. tt) best-sides-requires add-tried (λ c. search needs) (λ c. search needs) loop-again returns)
+    reach-in-use-requires (λ c κs. tt) add-end loop-holds (λ c κs. tt) best-sides-requires add-tried (λ c. search needs) (λ c. search needs) loop-again returns)

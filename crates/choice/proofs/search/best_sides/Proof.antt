@@ -7,12 +7,13 @@ use borrow.Author.Needs.{needs}
 use lib.ListN.{getD}
 use Rattle.pattern.specs.Words.{patternNumber}
 use Rattle.prediction.proofs.SideCallLaws.{sides-bounds}
+use Rattle.choice.specs.Case.{reachInUse}
 use Rattle.choice.specs.Picked.{blockCase}
 use Rattle.choice.specs.Search.{trialCost}
 use Rattle.choice.specs.Trial.{TrialOf}
 use Rattle.choice.proofs.CaseLaws.{other-case}
 use Rattle.choice.proofs.LayerLaws.{fits-block}
-use Rattle.choice.proofs.WeighLaws.{word-small, others-small, size-le, parted-marked, parted-others, findable, trial-weighed}
+use Rattle.choice.proofs.WeighLaws.{word-small, others-small, size-le, parted-marked, parted-others, findable, trial-weighed, reach-few, reach-used}
 use Rattle.choice.proofs.TrialLaws.{trial-low}
 use Rattle.choice.proofs.SearchLaws.{both-sides, both-tried}
 use Rattle.choice.proofs.search.best_sides.Statement.{statement}
@@ -88,7 +89,8 @@ unmarked :
     (c : tie.After-best-of-part)
     → let a = c .before .before .before .before .before .before .before .before .before .before .before .args in
     let t = c .best-of-part .result in
-    TrialOf (trialCost (blockCase (a .n) (a .border .now) (a .original .now) (a .table .now) (a .reach)) (patternNumber (a .p)) false) (2 * a .reach) (t .number) (t .cost)
+    let C = blockCase (a .n) (a .border .now) (a .original .now) (a .table .now) (a .reach) in
+    TrialOf (trialCost C (patternNumber (a .p)) false) (2 * reachInUse C) (t .number) (t .cost)
 unmarked c =
     let o = c .before .before .before in
     let z = o .before .before .before .before in
@@ -100,7 +102,8 @@ marked :
     (c : tie.After-best-of-part2)
     → let a = c .before .before .before .before .before .before .before .before .before .before .before .before .args in
     let t = c .best-of-part2 .result in
-    TrialOf (trialCost (blockCase (a .n) (a .border .now) (a .original .now) (a .table .now) (a .reach)) (patternNumber (a .p)) true) (2 * a .reach) (t .number) (t .cost)
+    let C = blockCase (a .n) (a .border .now) (a .original .now) (a .table .now) (a .reach) in
+    TrialOf (trialCost C (patternNumber (a .p)) true) (2 * reachInUse C) (t .number) (t .cost)
 marked c =
     let z = c .before .before .before .before .before .before .before .before in
     let s = z .before .before .before .before in
@@ -110,22 +113,23 @@ marked c =
 tried-by-requires : tie.Need-tried-by-requires
 tried-by-requires c κs =
     let t = c .before .before .before in
-    let near = t .before .before .before .before .before .before .before .before .before .before .before .pre .0 .near in
+    let near = reach-few _ _ _ _ _ _ (t .before .before .before .before .before .before .before .before .before .before .before .pre .0) in
     (omega (arith, trial-low (t .best-of-part .ensures .0), near), near)
 
 tried-by-requires-2 : tie.Need-tried-by-requires-2
 tried-by-requires-2 c κs =
     let t = c .before .before .before in
-    let near = t .before .before .before .before .before .before .before .before .before .before .before .before .pre .0 .near in
+    let near = reach-few _ _ _ _ _ _ (t .before .before .before .before .before .before .before .before .before .before .before .before .pre .0) in
     (omega (arith, trial-low (t .best-of-part2 .ensures .0), near), near)
 
 returns : tie.Need-returns
 returns c =
     let t = c .before in
     let q = t .before .before .before in
-    let p = q .before in (
+    let p = q .before in
+    let used = reach-used _ _ _ _ _ _ (p .before .before .before .before .before .before .before .before .before .before .before .pre .0) in (
       both-sides _ _ (unmarked p) (marked q),
-      both-tried _ _ (unmarked p) (marked q) (t .tried-by .ensures .0) (c .tried-by2 .ensures .0),
+      both-tried _ _ (unmarked p) (marked q) used (t .tried-by .ensures .0) (c .tried-by2 .ensures .0),
       omega (arith, p .best-of-part .ensures .1, q .best-of-part2 .ensures .1),
     )
 
