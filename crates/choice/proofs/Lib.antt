@@ -18,3 +18,4 @@ pub mod PartLaws
 pub mod TurnLaws
 pub mod BuildLaws
 pub mod FindLaws
+pub mod ReachLaws

@@ -14,3 +14,4 @@ pub mod Trial
 pub mod Sums
 pub mod Layers
 pub mod Turn
+pub mod Reach

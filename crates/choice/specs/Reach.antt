@@ -1,0 +1,16 @@
+-- Document 02, Ask 4: with the reach lowered to table count - 1 the least cost and the chosen record are those of the reach as given.
+use Prim.Native.Nat.{ℕ}
+use mathlib.Core.Path.{_≡_}
+use Rattle.record.specs.declared.Record.{Record}
+use Rattle.choice.specs.Case.{Case}
+use Rattle.choice.specs.Record.{LeastWithin, LeastRecord}
+use Rattle.choice.specs.Refusal.{chooseRefusal}
+use Rattle.choice.specs.Search.{chosen}
+
+pub record ReachEnough (C : Case) : Type 0 where
+  -- a record that is the first of least cost within the reach in use is so within the reach as given, at the same cost
+  pub enough : (r : Record) (cost : ℕ) → LeastRecord C r cost → LeastWithin (C .reach) C r cost
+  -- and no other record is
+  pub only : (r : Record) (cost : ℕ) → LeastWithin (C .reach) C r cost → LeastRecord C r cost
+  -- so what is chosen in a case that is not refused is the first of least cost within the reach as given
+  pub answered : chooseRefusal C ≡ 0 → LeastWithin (C .reach) C (chosen C .0) (chosen C .1)
