@@ -7,25 +7,34 @@ use mathlib.Core.Logic.{_⊎_, inl, inr, ⊎-elim}
 use native.Mathlib.Decide.{decLt}
 use native.Mathlib.Nat.{eq-or-lt-of-le}
 use native.Mathlib.Omega.{arith}
-use lib.IntN.{ℤ, pos, negsuc}
+use borrow.Author.Tests.{le-leb, lt-ltb, ltb-true}
+use lib.IntN.{ℤ, pos, negsuc, natAbs}
 use lib.ListN.{length, getD}
+use Rattle.arith.specs.Checks.{Hold}
 use Rattle.arith.specs.Distance.{clamped}
 use Rattle.depth_table.specs.Table.{indexOf}
-use Rattle.depth_table.specs.Offset.{levelOf}
+use Rattle.depth_table.specs.Offset.{offsetOk, offsetUsable, offsetChecks, levelOf}
 use Rattle.depth_table.proofs.IndexLaws.{index-below}
+use Rattle.depth_table.proofs.LevelLaws.{table-some}
 use Rattle.prediction.specs.Sides.{sideDepth}
 use Rattle.record.specs.declared.Record.{Record}
 use Rattle.choice.specs.Case.{Case, reachInUse}
 use Rattle.choice.specs.Cost.{sideCost}
 use Rattle.choice.specs.Offset.{InReach, Sooner, trial}
 use Rattle.choice.specs.Reach.{ReachEnough}
-use Rattle.choice.specs.Record.{WithinReach, patternOf, costOf, Before, LeastWithin}
+use Rattle.choice.specs.Refusal.{chooseRefusal}
+use Rattle.choice.specs.Record.{WithinReach, Within, patternOf, costOf, Before, LeastWithin}
 use Rattle.choice.proofs.AcceptLaws.{accepted}
 use Rattle.choice.proofs.LeastLaws.{chosen-least, same-record}
 use Rattle.choice.proofs.OffsetLaws.{sooner-trial, trial-sooner, trial-same}
 use Rattle.choice.proofs.SideLaws.{partCost, cost-split}
 
 -- ---- one offset
+
+-- within the reach in use it passes its checks
+offset-passes : (R values : ℕ) (z : ℤ) → R ≤ 255 → 0 < values → InReach (min R (values - 1)) z → (offsetOk z ≡ true) × (offsetUsable values z ≡ true)
+unfolding offsetOk offsetUsable
+offset-passes R values z near some h = (le-leb (natAbs z) 255 (omega arith), lt-ltb (natAbs z) values (omega arith))
 
 -- an offset brought to -last .. last
 abbrev pub shortened : ℕ → ℤ → ℤ
@@ -126,6 +135,16 @@ module _ (C : Case) where
       (λ l. inr (inr (refl, inr (refl, inl l))))
       (shortened-sooner last (r .off0))
 
+  -- ---- the records within the reach in use
+
+  within-passes : chooseRefusal C ≡ 0 → (r : Record) → Within C r → Hold (offsetChecks (length (C .table)) (r .off0) (r .off1))
+  within-passes none r h =
+      let a = accepted C none in
+      let some = ltb-true 0 (length (C .table)) (table-some (C .table) (a .sound)) in
+      let p = offset-passes (C .reach) (length (C .table)) (r .off0) (a .near) some (h .off0-in) in
+      let q = offset-passes (C .reach) (length (C .table)) (r .off1) (a .near) some (h .off1-in) in
+      (rw (p .0, q .0), (rw (p .1, q .1), tt))
+
   -- ---- the least within a reach R, and within the lesser of R and the last place
 
   module _ (R near : ℕ) (e : near ≡ min R last) where
@@ -163,10 +182,11 @@ module _ (C : Case) where
           first = λ s h b. x .first s (wider-in h) b;
         }
 
--- what is least and first within the reach in use is so within the reach as given, and nothing else is
+-- the offsets of records within the reach in use pass; what is least and first there is so within the reach as given, and nothing else is
 pub reach-enough : (C : Case) → ReachEnough C
 reach-enough C =
     record {
+      passes = within-passes C;
       enough = λ r cost x. wider C (C .reach) (reachInUse C) refl x;
       only = λ r cost x. narrower C (C .reach) (reachInUse C) refl x;
       answered = λ h. wider C (C .reach) (reachInUse C) refl (chosen-least C (accepted C h .some));

@@ -4,7 +4,8 @@ use Prim.Native.Nat.{ℕ, suc, _+_, _-_, _≤_, _<_, _^_, min}
 use mathlib.Core.Path.{_≡_, refl, sym, ap, _∙_}
 use mathlib.Core.Bool.{true, false}
 use native.Mathlib.Omega.{arith}
-use lib.Dec.{T}
+use native.Mathlib.Numerals.{add-one}
+use lib.Dec.{T, ltb}
 use lib.IntN.{ℤ, pos, negsuc, natAbs, _-ℤ_}
 use lib.Signed.{mag, ltZ, nonNeg}
 use mir.Syntax.{w32, w64}
@@ -13,7 +14,7 @@ use mir.ValLaws.{toZ-ofZ}
 use borrow.Author.Tests.{le-leb, lt-leb, le-ltb, ltb-true, ltb-false}
 use Rattle.arith.specs.Distance.{clamped}
 use Rattle.arith.proofs.Bools.{clash}
-use Rattle.depth_table.specs.Offset.{offsetOk}
+use Rattle.depth_table.specs.Offset.{offsetOk, offsetUsable}
 
 -- ---- the range, by the tests `off < -255` and `off > 255`: past a bound that is no nearer to 0 an offset is out of range
 
@@ -47,6 +48,18 @@ up-at : (count i : ℕ) (z : ℤ) → ltZ z (pos 0) ≡ false → clamped count 
 unfolding clamped
 up-at count i (pos k) h = refl
 up-at count i (negsuc k) h = clash h
+
+-- and whether a table of so many values can use it
+
+below-at : (values : ℕ) (z : ℤ) → ltZ z (pos 0) ≡ true → ltb (mag z + 1) values ≡ offsetUsable values z
+unfolding offsetUsable
+below-at values (pos k) h = absurd (omega (arith, ltb-true k 0 h))
+below-at values (negsuc k) h = rw (add-one k)
+
+above-at : (values : ℕ) (z : ℤ) → ltZ z (pos 0) ≡ false → ltb (mag z) values ≡ offsetUsable values z
+unfolding offsetUsable
+above-at values (pos k) h = refl
+above-at values (negsuc k) h = clash h
 
 up-cast-at : (z : ℤ) → SFits w32 z → ltZ z (pos 0) ≡ false → T (nonNeg z) × Fits w64 (natAbs z)
 up-cast-at (pos k) f h = (tt, record { fits = omega (arith, f .sfits) })
@@ -87,6 +100,9 @@ module _ {z b : ℤ} (e : b ≡ z) where
       pub minus-steps : natAbs (toZ w32 (ofZ w32 (negsuc 0 -ℤ b))) ≡ mag z
       minus-steps = ap natAbs minus-read
 
+      pub usable-down : (values : ℕ) → ltb (natAbs (toZ w32 (ofZ w32 (negsuc 0 -ℤ b))) + 1) values ≡ offsetUsable values z
+      usable-down values = rw minus-steps (below-at values z (rw e at h))
+
       pub clamped-down : (count i : ℕ) → clamped count i z ≡ min (i - (mag z + 1)) (count - 1)
       clamped-down count i = down-at count i z (rw e at h)
 
@@ -97,6 +113,9 @@ module _ {z b : ℤ} (e : b ≡ z) where
 
       pub plus-steps : natAbs b ≡ mag z
       plus-steps = rw e (up-steps-at z (rw e at h))
+
+      pub usable-up : (values : ℕ) → ltb (natAbs b) values ≡ offsetUsable values z
+      usable-up values = rw plus-steps (above-at values z (rw e at h))
 
       pub clamped-up : (count i : ℕ) → clamped count i z ≡ min (i + mag z) (count - 1)
       clamped-up count i = up-at count i z (rw e at h)

@@ -1,7 +1,8 @@
 // The depth table (document 01, "Depth table"): depth values, depth indices, and the index of the nearest value.
 mod offset;
 
-pub use offset::offset_ok;
+pub use offset::offsets_ok;
+pub use offset::offsets_usable;
 pub use offset::value_at;
 ghost use mathlib.Core.Path.{_≡_};
 ghost use Rattle.arith.specs.Distance.{dist};

@@ -2,7 +2,7 @@
 ghost use mathlib.Core.Path.{_≡_};
 ghost use Prim.Native.Nat.{_-_};
 ghost use Rattle.arith.specs.Distance.{clamped};
-ghost use Rattle.depth_table.specs.Offset.{offsetOk};
+ghost use Rattle.depth_table.specs.Offset.{offsetOk, offsetUsable, offsetsOk, offsetsUsable};
 ghost use Rattle.depth_table.specs.Answer.{valueAnswer, valueTold};
 use crate::DepthIndex;
 use crate::DepthValue;
@@ -11,7 +11,7 @@ use pattern::check;
 use pattern::lesser;
 
 // Whether an offset is -255 to 255.
-pub fn offset_ok(off: i32) -> bool
+fn offset_ok(off: i32) -> bool
     ensures { λ r. ⌜ r ≡ offsetOk off ⌝ }
 {
     if off < -255 {
@@ -21,6 +21,38 @@ pub fn offset_ok(off: i32) -> bool
         return false;
     }
     true
+}
+
+// Whether a table of so many values can use an offset: its absolute value is below their number.
+fn offset_usable(values: usize, off: i32) -> bool
+    ensures { λ r. ⌜ r ≡ offsetUsable values off ⌝ }
+{
+    if off < 0 {
+        let steps = (-1 - off) as usize;
+        return steps + 1 < values;
+    }
+    let steps = off as usize;
+    steps < values
+}
+
+// Whether two offsets are both -255 to 255.
+pub fn offsets_ok(off0: i32, off1: i32) -> bool
+    ensures { λ r. ⌜ r ≡ offsetsOk off0 off1 ⌝ }
+{
+    if !offset_ok(off0) {
+        return false;
+    }
+    offset_ok(off1)
+}
+
+// Whether a table of so many values can use both of two offsets.
+pub fn offsets_usable(values: usize, off0: i32, off1: i32) -> bool
+    ensures { λ r. ⌜ r ≡ offsetsUsable values off0 off1 ⌝ }
+{
+    if !offset_usable(values, off0) {
+        return false;
+    }
+    offset_usable(values, off1)
 }
 
 // a - b, or 0 where b is the greater.

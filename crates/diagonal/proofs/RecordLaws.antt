@@ -6,23 +6,21 @@ use mathlib.Core.List.{List}
 use mathlib.Core.Logic.{⊎-elim}
 use native.Mathlib.Decide.{decLt}
 use native.Mathlib.Omega.{arith}
-use lib.IntN.{ℤ, natAbs}
 use lib.ListN.{length}
-use borrow.Author.Tests.{eq-eqb, le-leb}
+use borrow.Author.Tests.{eq-eqb}
 use Rattle.arith.specs.Checks.{given}
 use Rattle.arith.proofs.CheckLaws.{answer-given, lent-given}
 use Rattle.pattern.specs.Size.{wordOk}
 use Rattle.pattern.specs.Answer.{samplesRefusal, contourAnswer}
 use Rattle.pattern.specs.Contour.{contourOf}
-use Rattle.depth_table.specs.Offset.{offsetOk}
 use Rattle.depth_table.specs.Table.{tableOk}
 use Rattle.prediction.specs.Answer.{lengthsOk, predictRefusalBy, predictBlockBy, predictBlock}
-use Rattle.choice.specs.Offset.{InReach}
 use Rattle.choice.specs.Case.{Case}
 use Rattle.choice.specs.Record.{Within, patternBy, patternOf, predictionOf}
 use Rattle.record.specs.declared.Record.{Record}
-use Rattle.choice.proofs.AcceptLaws.{Accepted}
+use Rattle.choice.proofs.AcceptLaws.{Accepted, accept}
 use Rattle.choice.proofs.NumberLaws.{numberOf, number-pattern}
+use Rattle.choice.proofs.ReachLaws.{reach-enough}
 use Rattle.choice.proofs.SearchLaws.{texture-judged, pattern-inside}
 
 module _ (C : Case) (k : Accepted C) (r : Record) (h : Within C r) where
@@ -43,24 +41,21 @@ module _ (C : Case) (k : Accepted C) (r : Record) (h : Within C r) where
       let p = numberOf C (r .kind) (r .entry) in
       ap (wordOk (C .n)) (sym (number-pattern C (r .kind) (r .entry) (h .pattern-in))) ∙ pattern-inside C k p (decLt p (C .count))
 
-  offset-ok : (off : ℤ) → InReach (C .reach) off → offsetOk off ≡ true
-  unfolding offsetOk
-  offset-ok off l = le-leb (natAbs off) 255 (omega (arith, k .near))
-
   abbrev refusal : ℕ → ℕ
-  refusal samples = predictRefusalBy (tableOk (C .table)) (C .n) (patternOf C r) (length (C .neighbours)) (r .off0) (r .off1) samples
+  refusal samples = predictRefusalBy (tableOk (C .table)) (C .n) (patternOf C r) (length (C .neighbours)) (length (C .table)) (r .off0) (r .off1) samples
 
   predict-passes : (samples : ℕ) → samples ≡ C .n * C .n → refusal samples ≡ 0
   unfolding predictRefusalBy lengthsOk
   predict-passes samples e =
+      let o = reach-enough C .passes (accept C k) r h in
       rw (
         k .size,
         eq-eqb (length (C .neighbours)) (4 * C .n) (k .lengths .bordered),
         eq-eqb samples (C .n * C .n) e,
         k .sound,
         inside,
-        offset-ok (r .off0) (h .off0-in),
-        offset-ok (r .off1) (h .off1-in),
+        o .0,
+        o .1 .0,
       )
 
   pub predict-writes :

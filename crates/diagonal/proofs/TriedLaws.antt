@@ -26,7 +26,7 @@ use Rattle.wedgelet.proofs.AnswerLaws.{Built, built-at}
 use Rattle.prediction.specs.Transposed.{EndsDecide}
 use Rattle.prediction.proofs.SideTransposedLaws.{side-depth-transposed}
 use Rattle.depth_table.specs.Offset.{levelOf}
-use Rattle.choice.specs.Case.{Case}
+use Rattle.choice.specs.Case.{Case, reachInUse}
 use Rattle.choice.specs.Cost.{belongs, sideCost}
 use Rattle.choice.specs.Offset.{offset}
 use Rattle.choice.specs.Trial.{trialOver}
@@ -61,8 +61,8 @@ module _ (C : Case) (k : Accepted C) (built : Built (C .n) (C .list) (C .count))
   tried-turned : (w : ℕ) → triedAt D (turned w) ≡ triedAt C w
   unfolding triedAt
   tried-turned w =
-      let side : (m : Bool) → trialOver (trialCost D (turned w) m) (2 * C .reach) .1 ≡ trialOver (trialCost C w m) (2 * C .reach) .1 =
-      λ m i. trialOver (λ t. trial-transposed w m t i) (2 * C .reach) .1 in
+      let side : (m : Bool) → trialOver (trialCost D (turned w) m) (2 * reachInUse C) .1 ≡ trialOver (trialCost C w m) (2 * reachInUse C) .1 =
+      λ m i. trialOver (λ t. trial-transposed w m t i) (2 * reachInUse C) .1 in
       ap₂ _+_ (side false) (side true)
 
   -- ---- the entries

@@ -55,20 +55,21 @@ fn predict_refusal(
     n: usize,
     p: Pattern,
     neighbours: usize,
+    values: usize,
     off0: i32,
     off1: i32,
     samples: usize,
 ) -> u8
-    ensures { λ r. ⌜ r ≡ predictRefusalBy asked n (patternNumber p) neighbours off0 off1 samples ⌝ }
+    ensures { λ r. ⌜ r ≡ predictRefusalBy asked n (patternNumber p) neighbours values off0 off1 samples ⌝ }
 {
     if !pattern::size_ok(n) {
         return 1;
     }
     let lengths = lengths_ok(n, neighbours, samples);
     let inside = pattern::word_ok(n, p);
-    let offset0 = depth_table::offset_ok(off0);
-    let offset1 = depth_table::offset_ok(off1);
-    let later = check(inside, 5, check(offset0, 4, check(offset1, 4, 0)));
+    let allowed = depth_table::offsets_ok(off0, off1);
+    let usable = depth_table::offsets_usable(values, off0, off1);
+    let later = check(inside, 5, check(allowed, 4, check(usable, 24, 0)));
     check(lengths, 2, check(asked, 3, later))
 }
 
@@ -112,12 +113,21 @@ fn predict_where(
 ) -> Predicted
     requires { ⌜ (asked ≡ true → someValue (now table) ≡ true) ⌝ }
     ensures answered { λ r. ⌜ predictTold r
-        ≡ predictAnswerBy asked n (usedNumber n p) (now (border .entry)) off0 off1 (length (now (block .entry))) ⌝ }
+        ≡ predictAnswerBy asked n (usedNumber n p) (now (border .entry)) (now (table .entry)) off0 off1 (length (now (block .entry))) ⌝ }
     ensures written { λ r. ⌜ now (block .exit)
         ≡ predictBlockBy asked n (usedNumber n p) (now (border .entry)) (now (table .entry)) off0 off1 (now (block .entry)) ⌝ }
 {
     let q = pattern::used_words(n, p);
-    let refusal = predict_refusal(asked, n, q, border.len(), off0, off1, block.len());
+    let refusal = predict_refusal(
+        asked,
+        n,
+        q,
+        border.len(),
+        table.len(),
+        off0,
+        off1,
+        block.len(),
+    );
     if refusal != 0 {
         return Predicted::Refused(refusal);
     }
@@ -128,7 +138,7 @@ fn predict_where(
     Predicted::Marks(pattern::marks(q))
 }
 
-// Writes the predicted block of n * n samples and answers the number of marks, or refuses with 1, 2, 3, 5 or 4 and writes nothing.
+// Writes the predicted block of n * n samples and answers the number of marks, or refuses with 1, 2, 3, 5, 4 or 24 and writes nothing.
 // Up to 8 by 8 the pattern is the first word of p; the others are not read.
 pub fn predict(
     n: usize,

@@ -10,7 +10,7 @@ use lib.ListN.{getD}
 use Rattle.arith.specs.Checks.{Answer, refused, given, answer}
 use Rattle.arith.proofs.CheckLaws.{holds, passes, given-means, refused-means}
 use Rattle.pattern.specs.Size.{wordOk}
-use Rattle.depth_table.specs.Offset.{offsetOk}
+use Rattle.depth_table.specs.Offset.{offsetChecks}
 use Rattle.record.specs.declared.Record.{Record}
 use Rattle.record.specs.Meaning.{Named, listed, contour, offsetRefusal, kindMeaning, kindRefusal, recordMeaning, recordRefusal, patternNamed, Sound}
 
@@ -36,62 +36,62 @@ module _ (n : ℕ) (list : List ℕ) (count : ℕ) (lent : Bool) where
       (inr (refl, eqb-true entry 0 (p .0 .0), p .0 .1 .0), p .1)
   kind-names (suc (suc kind)) entry rest h = absurd (omega arith)
 
-module _ (n : ℕ) (list : List ℕ) (count : ℕ) (lent : Bool) (r : Record) where
+module _ (n : ℕ) (list : List ℕ) (count : ℕ) (lent : Bool) (values : ℕ) (r : Record) where
   -- a record that is not refused
-  pub record-sound : recordRefusal n list count lent r ≡ 0 → Sound n list count lent r
+  pub record-sound : recordRefusal n list count lent values r ≡ 0 → Sound n list count lent values r
   unfolding recordRefusal
   record-sound h =
-      let k = kind-names n list count lent (r .kind) (r .entry) (offsetRefusal r) h in
-      let o = holds ((offsetOk (r .off0), 4) ∷ (offsetOk (r .off1), 4) ∷ []) 0 (k .1) in
-      record { names = k .0; first = o .0 .0; second = o .0 .1 .0 }
+      let k = kind-names n list count lent (r .kind) (r .entry) (offsetRefusal values r) h in
+      let o = holds (offsetChecks values (r .off0) (r .off1)) 0 (k .1) in
+      record { names = k .0; allowed = o .0 .0; usable = o .0 .1 .0 }
 
-  pub sound-record : Sound n list count lent r → recordRefusal n list count lent r ≡ 0
+  pub sound-record : Sound n list count lent values r → recordRefusal n list count lent values r ≡ 0
   unfolding recordRefusal
   sound-record h =
       ⊎-elim
-      (λ w. kind-listed n list count lent (r .entry) (offsetRefusal r) (w .0) (w .1) (w .2))
-      (λ w. kind-contour n list count lent (r .entry) (offsetRefusal r) (w .0) (w .1) (w .2))
+      (λ w. kind-listed n list count lent (r .entry) (offsetRefusal values r) (w .0) (w .1) (w .2))
+      (λ w. kind-contour n list count lent (r .entry) (offsetRefusal values r) (w .0) (w .1) (w .2))
       (h .names)
-      ∙ passes ((offsetOk (r .off0), 4) ∷ (offsetOk (r .off1), 4) ∷ []) 0 (h .first, (h .second, tt))
+      ∙ passes (offsetChecks values (r .off0) (r .off1)) 0 (h .allowed, (h .usable, tt))
 
   -- a record's meaning as the code finds it, by the clause of its kind
   pub meaning-by :
-      {kind rest : ℕ} {x : Answer Named} → r .kind ≡ kind → rest ≡ offsetRefusal r
+      {kind rest : ℕ} {x : Answer Named} → r .kind ≡ kind → rest ≡ offsetRefusal values r
       → x ≡ answer (kindRefusal n list count lent kind (r .entry) rest) (kindMeaning n list count lent kind (r .entry) .1)
-      → x ≡ recordMeaning n list count lent r
+      → x ≡ recordMeaning n list count lent values r
   unfolding recordMeaning recordRefusal
   meaning-by e o h = rw (e, ← o) h
 
   -- a kind that is not 0 or 1
-  pub meaning-other : (r .kind ≡ 0 → ⊥) → (r .kind ≡ 1 → ⊥) → refused 7 ≡ recordMeaning n list count lent r
+  pub meaning-other : (r .kind ≡ 0 → ⊥) → (r .kind ≡ 1 → ⊥) → refused 7 ≡ recordMeaning n list count lent values r
   unfolding recordMeaning recordRefusal
   meaning-other h l = go (r .kind) h l
     where
       go :
           (kind : ℕ) → (kind ≡ 0 → ⊥) → (kind ≡ 1 → ⊥)
-          → refused 7 ≡ answer (kindRefusal n list count lent kind (r .entry) (offsetRefusal r)) (kindMeaning n list count lent kind (r .entry) .1)
+          → refused 7 ≡ answer (kindRefusal n list count lent kind (r .entry) (offsetRefusal values r)) (kindMeaning n list count lent kind (r .entry) .1)
       go zero h l = absurd (h refl)
       go (suc zero) h l = absurd (l refl)
       go (suc (suc k)) h l = refl
 
   -- the meaning that is answered
   pub meaning-given :
-      {x : Named} → given x ≡ recordMeaning n list count lent r
-      → (recordRefusal n list count lent r ≡ 0) × (kindMeaning n list count lent (r .kind) (r .entry) .1 ≡ x)
+      {x : Named} → given x ≡ recordMeaning n list count lent values r
+      → (recordRefusal n list count lent values r ≡ 0) × (kindMeaning n list count lent (r .kind) (r .entry) .1 ≡ x)
   unfolding recordMeaning
-  meaning-given {x} e = given-means (recordRefusal n list count lent r) _ x (sym e)
+  meaning-given {x} e = given-means (recordRefusal n list count lent values r) _ x (sym e)
 
   -- or the refusal
   pub meaning-refused :
-      {number : ℕ} → refused number ≡ recordMeaning n list count lent r
-      → (number ≡ recordRefusal n list count lent r) × (number ≡ 0 → ⊥)
+      {number : ℕ} → refused number ≡ recordMeaning n list count lent values r
+      → (number ≡ recordRefusal n list count lent values r) × (number ≡ 0 → ⊥)
   unfolding recordMeaning
   meaning-refused {number} e =
-      let m = refused-means (recordRefusal n list count lent r) number _ (sym e) in
+      let m = refused-means (recordRefusal n list count lent values r) number _ (sym e) in
       (m .0, λ z. m .1 (sym (m .0) ∙ z))
 
   -- the contour is named only where texture is lent
-  pub contour-lit : given contour ≡ recordMeaning n list count lent r → lent ≡ true
+  pub contour-lit : given contour ≡ recordMeaning n list count lent values r → lent ≡ true
   contour-lit e =
       let m = meaning-given e in
       ⊎-elim
@@ -101,7 +101,7 @@ module _ (n : ℕ) (list : List ℕ) (count : ℕ) (lent : Bool) (r : Record) wh
 
   -- the pattern of a record that is not refused has no bit from n * n up, if the contour c has none
   pub pattern-fits :
-      (c : ℕ) → wordOk n c ≡ true → recordRefusal n list count lent r ≡ 0
+      (c : ℕ) → wordOk n c ≡ true → recordRefusal n list count lent values r ≡ 0
       → wordOk n (patternNamed c (kindMeaning n list count lent (r .kind) (r .entry) .1)) ≡ true
   pattern-fits c fits h =
       ⊎-elim (λ w. rw (w .0) (w .2)) (λ w. rw (w .0) fits) (record-sound h .names)

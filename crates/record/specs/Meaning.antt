@@ -8,7 +8,7 @@ use lib.Dec.{eqb, ltb}
 use lib.ListN.{getD}
 use Rattle.arith.specs.Checks.{refusal, Answer, answer}
 use Rattle.pattern.specs.Size.{wordOk}
-use Rattle.depth_table.specs.Offset.{offsetOk}
+use Rattle.depth_table.specs.Offset.{offsetsOk, offsetsUsable, offsetChecks}
 use Rattle.record.specs.declared.Record.{Record}
 
 -- what a record's kind and entry name: a pattern of the list, the contour (document 01: the outline) of the block's texture, or nothing
@@ -30,18 +30,18 @@ kindMeaning n list count textured (suc (suc k)) entry = ((false, 7) ∷ [], noth
 abbrev pub kindRefusal : ℕ → List ℕ → ℕ → Bool → ℕ → ℕ → ℕ → ℕ
 kindRefusal n list count textured kind entry rest = refusal (kindMeaning n list count textured kind entry .0) rest
 
--- 4: an offset
-abbrev pub offsetRefusal : Record → ℕ
-offsetRefusal r = refusal ((offsetOk (r .off0), 4) ∷ (offsetOk (r .off1), 4) ∷ []) 0
+-- 4: an offset; 24: an offset that a table of so many values cannot use
+abbrev pub offsetRefusal : ℕ → Record → ℕ
+offsetRefusal values r = refusal (offsetChecks values (r .off0) (r .off1)) 0
 
--- the checks of a record in document 01's order: 7, 21, 6, 5, 4
-unfoldable pub recordRefusal : ℕ → List ℕ → ℕ → Bool → Record → ℕ
-recordRefusal n list count textured r = kindRefusal n list count textured (r .kind) (r .entry) (offsetRefusal r)
+-- the checks of a record in the papers' order: 7, 21, 6, 5, 4, 24; values is how many the table has
+unfoldable pub recordRefusal : ℕ → List ℕ → ℕ → Bool → ℕ → Record → ℕ
+recordRefusal n list count textured values r = kindRefusal n list count textured (r .kind) (r .entry) (offsetRefusal values r)
 
 -- what a record means, or its refusal
-unfoldable pub recordMeaning : ℕ → List ℕ → ℕ → Bool → Record → Answer Named
-recordMeaning n list count textured r =
-    answer (recordRefusal n list count textured r) (kindMeaning n list count textured (r .kind) (r .entry) .1)
+unfoldable pub recordMeaning : ℕ → List ℕ → ℕ → Bool → ℕ → Record → Answer Named
+recordMeaning n list count textured values r =
+    answer (recordRefusal n list count textured values r) (kindMeaning n list count textured (r .kind) (r .entry) .1)
 
 -- the pattern that is named, where c is the contour
 abbrev pub patternNamed : ℕ → Named → ℕ
@@ -49,10 +49,11 @@ patternNamed c (listed w) = w
 patternNamed c contour = c
 patternNamed c nothing = 0
 
--- what holds of a record that is not refused: it names an entry of the list, or the contour of lent texture, and its offsets are allowed
-pub record Sound (n : ℕ) (list : List ℕ) (count : ℕ) (textured : Bool) (r : Record) : Type 0 where
+-- what holds of a record that is not refused: it names an entry of the list, or the contour of lent texture, its offsets are allowed, and
+-- a table of so many values can use them
+pub record Sound (n : ℕ) (list : List ℕ) (count : ℕ) (textured : Bool) (values : ℕ) (r : Record) : Type 0 where
   pub names :
       ((r .kind ≡ 0) × (r .entry < count) × (wordOk n (getD list (r .entry) 0) ≡ true))
       ⊎ ((r .kind ≡ 1) × (r .entry ≡ 0) × (textured ≡ true))
-  pub first : offsetOk (r .off0) ≡ true
-  pub second : offsetOk (r .off1) ≡ true
+  pub allowed : offsetsOk (r .off0) (r .off1) ≡ true
+  pub usable : offsetsUsable values (r .off0) (r .off1) ≡ true

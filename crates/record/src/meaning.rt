@@ -19,14 +19,15 @@ pub enum Meaning {
     Refused(u8),
 }
 
-// 4 where an offset is not allowed, or 0.
-fn offset_refusal(r: Record) -> u8
-    ensures { λ t. ⌜ t ≡ offsetRefusal r ⌝ }
+// 4 where an offset is not allowed, 24 where a table of so many values cannot use one, or 0.
+fn offset_refusal(values: usize, r: Record) -> u8
+    ensures { λ t. ⌜ t ≡ offsetRefusal values r ⌝ }
 {
     let off0 = r.off0;
     let off1 = r.off1;
-    let second = check(depth_table::offset_ok(off1), 4, 0);
-    check(depth_table::offset_ok(off0), 4, second)
+    let allowed = depth_table::offsets_ok(off0, off1);
+    let usable = depth_table::offsets_usable(values, off0, off1);
+    check(allowed, 4, check(usable, 24, 0))
 }
 
 // Kind 0: the pattern at an entry, or refusal 6, 5, or what the checks after these say.
@@ -55,11 +56,19 @@ fn contour_meaning(textured: bool, entry: u32, rest: u8) -> Meaning
     Meaning::Contour
 }
 
-// What a record means for blocks of size n, with a list and its count; `textured` is whether texture is lent. Refusals: 7, 21, 6, 5, 4.
-pub fn meaning_of(n: usize, list: &[u64], count: usize, textured: bool, r: Record) -> Meaning
-    ensures { λ t. ⌜ meaningTold t ≡ recordMeaning n (patternsOf n (now (list .entry))) count textured r ⌝ }
+// What a record means for blocks of size n, with a list and its count and a table of so many values; `textured` is whether texture is lent.
+// Refusals: 7, 21, 6, 5, 4, 24.
+pub fn meaning_of(
+    n: usize,
+    list: &[u64],
+    count: usize,
+    textured: bool,
+    values: usize,
+    r: Record,
+) -> Meaning
+    ensures { λ t. ⌜ meaningTold t ≡ recordMeaning n (patternsOf n (now (list .entry))) count textured values r ⌝ }
 {
-    let offsets = offset_refusal(r);
+    let offsets = offset_refusal(values, r);
     let kind = r.kind;
     match kind {
         0 => listed_meaning(n, list, count, r.entry, offsets),

@@ -39,7 +39,7 @@ pub record FileSound (A : Aids) (F : File) : Type 0 where
   pub values : bytes (F .table) ≡ true
   pub rises : rising 0 (F .table) ≡ true
   pub whole : length (F .records) ≡ blocks (F .n) (F .width) (F .height)
-  pub each : (i : ℕ) → i < length (F .records) → recordLineMeaning (F .n) A tt (getD (F .records) i noRecord) ≡ 0
+  pub each : (i : ℕ) → i < length (F .records) → recordLineMeaning (F .n) A (length (F .table)) tt (getD (F .records) i noRecord) ≡ 0
 
 abbrev pub textOf : File → List ℕ
 textOf F = fileText (F .n) (F .width) (F .height) (F .table) (F .records)
@@ -84,10 +84,10 @@ pub value-item :
 value-item = many-item 6 value-line value-le valueMeaning lowAfter
 
 pub record-item :
-    (n : ℕ) (A : Aids) (m k : ℕ)
-    → Item (λ c s. manyLines recordLine (recordLineMeaning n A) unchanged m k c s) (texts recordText)
-    (λ c l. (length l ≡ m) × Each (SoundRecord n A) unchanged c l) (26 * m)
-record-item n A = many-item 26 record-line record-le (recordLineMeaning n A) unchanged
+    (n : ℕ) (A : Aids) (values m k : ℕ)
+    → Item (λ c s. manyLines recordLine (recordLineMeaning n A values) unchanged m k c s) (texts recordText)
+    (λ c l. (length l ≡ m) × Each (SoundRecord n A values) unchanged c l) (26 * m)
+record-item n A values = many-item 26 record-line record-le (recordLineMeaning n A values) unchanged
 
 -- ---- what is printed is read
 
@@ -95,15 +95,15 @@ module _ (A : Aids) (F : File) (few : A .count (F .n) ≤ 9999) (ok : FileSound 
   abbrev header : SizeFields
   header = sizeFieldsOf (F .n) (F .width) (F .height) (length (F .table))
 
-  sound-records : Each (SoundRecord (F .n) A) unchanged tt (F .records)
+  sound-records : Each (SoundRecord (F .n) A (length (F .table))) unchanged tt (F .records)
   sound-records =
-      each-made (SoundRecord (F .n) A tt) unchanged noRecord (F .records)
-      (λ i h. let m = ok .each i h in (small-printable _ (record-small (F .n) (A .list (F .n)) (A .count (F .n)) _ _ few m), m))
+      each-made (SoundRecord (F .n) A (length (F .table)) tt) unchanged noRecord (F .records)
+      (λ i h. let m = ok .each i h in (small-printable _ (record-small (F .n) (A .list (F .n)) (A .count (F .n)) _ _ _ few m), m))
 
-  last-read : lastLines (F .n) A (blocksIn header) (5 + length (F .table)) (texts recordText (F .records)) ≡ read (F .records) []
+  last-read : lastLines (F .n) A (length (F .table)) (blocksIn header) (5 + length (F .table)) (texts recordText (F .records)) ≡ read (F .records) []
   last-read =
-      ap (λ (s : List ℕ). lastLines (F .n) A (blocksIn header) (5 + length (F .table)) s) (sym (append-nil (texts recordText (F .records))))
-      ∙ lines-read _ (record-item (F .n) A (blocksIn header) (5 + length (F .table)) .reads tt (F .records) [] (ok .whole, sound-records))
+      ap (λ (s : List ℕ). lastLines (F .n) A (length (F .table)) (blocksIn header) (5 + length (F .table)) s) (sym (append-nil (texts recordText (F .records))))
+      ∙ lines-read _ (record-item (F .n) A (length (F .table)) (blocksIn header) (5 + length (F .table)) .reads tt (F .records) [] (ok .whole, sound-records))
 
   head-read : (s : List ℕ) → headLines (length (A .texture)) (sizeTitle ++ (sizeText header ++ (depthTitle ++ s))) ≡ read header s
   head-read s =
@@ -140,7 +140,7 @@ sound-as :
     (A : Aids) (F : File) (z : SizeFields) (table : List ℕ) (records : List Record)
     → sizeMeaning (length (A .texture)) z ≡ 0 → length table ≡ z .values → Each SoundValue lowAfter 0 table
     → length records ≡ blocks (z .n) (z .width) (z .height)
-    → Each (SoundRecord (z .n) A) unchanged tt records
+    → Each (SoundRecord (z .n) A (z .values)) unchanged tt records
     → fileOf (z .n) (z .width) (z .height) table records ≡ F → FileSound A F
 sound-as A F z table records h c v l r eF =
     let w = sound-values table 0 v in
@@ -150,7 +150,7 @@ sound-as A F z table records h c v l r eF =
       values = w .0;
       rises = w .1;
       whole = l;
-      each = λ i k. each-at (SoundRecord (z .n) A tt) unchanged noRecord records r i k .1;
+      each = λ i k. rw c (each-at (SoundRecord (z .n) A (z .values) tt) unchanged noRecord records r i k .1);
     })
 
 -- what was read
@@ -215,12 +215,12 @@ file-wrote A F s t q =
     let table = f .value .1 in
     let m = blocksIn z in
     let p = front-parts (length (A .texture)) s z table (f .rest) (f .first) in
-    let l = lines-parts _ (lastLines (z .n) A m (5 + z .values) (f .rest)) F t (f .then) in
-    let r = lines-parts _ (recordLines (z .n) A m (5 + z .values) (f .rest)) (l .value) (l .rest) (l .first) in
+    let l = lines-parts _ (lastLines (z .n) A (z .values) m (5 + z .values) (f .rest)) F t (f .then) in
+    let r = lines-parts _ (recordLines (z .n) A (z .values) m (5 + z .values) (f .rest)) (l .value) (l .rest) (l .first) in
     let e = ended-parts (5 + z .values + m) (r .value) (l .value) (r .rest) (l .rest) (r .then) in
     let g = same-read (l .then) in
     let eF : fileOf (z .n) (z .width) (z .height) table (r .value) ≡ F = ap (fileOf (z .n) (z .width) (z .height) table) (e .0) ∙ g .0 in
-    let w = record-item (z .n) A m (5 + z .values) .wrote tt (r .value) (f .rest) (r .rest) (r .first) in
+    let w = record-item (z .n) A (z .values) m (5 + z .values) .wrote tt (r .value) (f .rest) (r .rest) (r .first) in
     record {
       text =
           join A F z table (r .value) s (p .s1) (p .s2) (p .s3) (p .s4) (f .rest) (r .rest) (p .e1) (p .e2) (p .e3) (p .e4) (p .e5) (w .0) (e .1)

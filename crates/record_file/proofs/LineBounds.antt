@@ -95,8 +95,8 @@ front-below texture s =
 
 rest-below : (A : Aids) (z : SizeFields) (s : List ℕ) → z .values ≤ mostValues → blocksIn z ≤ mostBlocks → Below lineEnd (restLines A z s)
 rest-below A z s v m =
-    lines-below lineEnd (recordLines (z .n) A (blocksIn z) (5 + z .values) s) _
-    (many-below lineEnd recordLine (recordLineMeaning (z .n) A) unchanged (blocksIn z) (5 + z .values) tt s (omega arith))
+    lines-below lineEnd (recordLines (z .n) A (z .values) (blocksIn z) (5 + z .values) s) _
+    (many-below lineEnd recordLine (recordLineMeaning (z .n) A (z .values)) unchanged (blocksIn z) (5 + z .values) tt s (omega arith))
     (λ l t _. ended-below lineEnd _ l t (omega arith))
 
 file-below : (A : Aids) (s : List ℕ) → Below lineEnd (fileLines A s)

@@ -28,8 +28,8 @@ use Rattle.record_file.specs.Reading.{Aids, valueMeaning, lowAfter, reco
 abbrev pub SoundValue : ℕ → ℕ → Type 0
 SoundValue low v = NumberPrintable v × (valueMeaning low v ≡ 0)
 
-abbrev pub SoundRecord : ℕ → Aids → Unit {0} → Record → Type 0
-SoundRecord n A c r = RecordPrintable r × (recordLineMeaning n A c r ≡ 0)
+abbrev pub SoundRecord : ℕ → Aids → ℕ → Unit {0} → Record → Type 0
+SoundRecord n A values c r = RecordPrintable r × (recordLineMeaning n A values c r ≡ 0)
 
 -- values that are bytes and rise are sound line by line
 pub values-sound : (t : List ℕ) (low : ℕ) → bytes t ≡ true → rising low t ≡ true → Each SoundValue lowAfter low t
@@ -63,34 +63,35 @@ module _ {A : Type 0} (P : A → Type 0) (step : Unit {0} → A → Unit {0}) (d
   each-at (a ∷ l) h zero k = h .0
   each-at (a ∷ l) h (suc i) k = each-at l (h .1) i (omega arith)
 
-module _ (n : ℕ) (list : List ℕ) (count : ℕ) (lent : Bool) (r : Record) where
+module _ (n : ℕ) (list : List ℕ) (count : ℕ) (lent : Bool) (values : ℕ) (r : Record) where
   -- how far the numbers of a record that is not refused go
-  pub record-small : count ≤ 9999 → recordRefusal n list count lent r ≡ 0 → Small r
+  pub record-small : count ≤ 9999 → recordRefusal n list count lent values r ≡ 0 → Small r
   unfolding offsetOk
   record-small few h =
-      let s = record-sound n list count lent r h in
+      let s = record-sound n list count lent values r h in
       let k : (r .kind ≤ 1) × (r .entry ≤ 9998) =
       ⊎-elim (λ w. (omega (arith, w .0), omega (arith, w .1, few))) (λ w. (omega (arith, w .0), omega (arith, w .1))) (s .names) in
+      let o = both-of (offsetOk (r .off0)) (offsetOk (r .off1)) (s .allowed) in
       record {
         kind = k .0;
         entry = k .1;
-        off0 = leb-true (natAbs (r .off0)) 255 (s .first);
-        off1 = leb-true (natAbs (r .off1)) 255 (s .second);
+        off0 = leb-true (natAbs (r .off0)) 255 (o .0);
+        off1 = leb-true (natAbs (r .off1)) 255 (o .1);
       }
 
   -- a record that is sound in reading is sound in writing, which asks for no texture
-  pub written-sound : recordRefusal n list count lent r ≡ 0 → recordRefusal n list count true r ≡ 0
+  pub written-sound : recordRefusal n list count lent values r ≡ 0 → recordRefusal n list count true values r ≡ 0
   written-sound h =
-      let s = record-sound n list count lent r h in
-      sound-record n list count true r
-      (record { names = ⊎-elim (λ w. inl w) (λ w. inr (w .0, w .1, refl)) (s .names); first = s .first; second = s .second })
+      let s = record-sound n list count lent values r h in
+      sound-record n list count true values r
+      (record { names = ⊎-elim (λ w. inl w) (λ w. inr (w .0, w .1, refl)) (s .names); allowed = s .allowed; usable = s .usable })
 
   -- and back, where texture is lent if the kind is 1
-  pub read-sound : (r .kind ≡ 1 → lent ≡ true) → recordRefusal n list count true r ≡ 0 → recordRefusal n list count lent r ≡ 0
+  pub read-sound : (r .kind ≡ 1 → lent ≡ true) → recordRefusal n list count true values r ≡ 0 → recordRefusal n list count lent values r ≡ 0
   read-sound t h =
-      let s = record-sound n list count true r h in
-      sound-record n list count lent r
-      (record { names = ⊎-elim (λ w. inl w) (λ w. inr (w .0, w .1, t (w .0))) (s .names); first = s .first; second = s .second })
+      let s = record-sound n list count true values r h in
+      sound-record n list count lent values r
+      (record { names = ⊎-elim (λ w. inl w) (λ w. inr (w .0, w .1, t (w .0))) (s .names); allowed = s .allowed; usable = s .usable })
 
 pub small-printable : (r : Record) → Small r → RecordPrintable r
 small-printable r s = (omega (arith, s .kind), (omega (arith, s .entry), (omega (arith, s .off0), (omega (arith, s .off1), tt))))

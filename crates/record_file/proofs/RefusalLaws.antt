@@ -75,7 +75,7 @@ module _ (W : Source) (list : List ℕ) (count records space : ℕ) where
   checks = writeChecks (W .sheet) (W .table) (length list) count records space
 
   abbrev recordsRefusal : ℕ
-  recordsRefusal = firstTo (λ i. writtenRefusal (W .sheet .n) list count (W .record-at i)) (blocksOf (W .sheet))
+  recordsRefusal = firstTo (λ i. writtenRefusal (W .sheet .n) list count (length (W .table)) (W .record-at i)) (blocksOf (W .sheet))
 
   -- what writing asks for
   pub record Accepted : Type 0 where
@@ -84,7 +84,7 @@ module _ (W : Source) (list : List ℕ) (count records space : ℕ) where
     pub sides : sidesOk (W .sheet) ≡ true
     pub done : W .sheet .placed ≡ blocksOf (W .sheet)
     pub sound : tableOk (W .table) ≡ true
-    pub each : (i : ℕ) → i < blocksOf (W .sheet) → writtenRefusal (W .sheet .n) list count (W .record-at i) ≡ 0
+    pub each : (i : ℕ) → i < blocksOf (W .sheet) → writtenRefusal (W .sheet .n) list count (length (W .table)) (W .record-at i) ≡ 0
 
   pub accepted-parts : writeRefusal W list count records space ≡ 0 → Accepted
   unfolding writeRefusal
@@ -98,7 +98,7 @@ module _ (W : Source) (list : List ℕ) (count records space : ℕ) where
         sides = q .1 .1 .0;
         done = eqb-true _ _ (q .1 .1 .1 .1 .0);
         sound = q .1 .1 .1 .1 .1 .0;
-        each = first-all (λ i. writtenRefusal (S .n) list count (W .record-at i)) (blocksOf S) (p .1);
+        each = first-all (λ i. writtenRefusal (S .n) list count (length (W .table)) (W .record-at i)) (blocksOf S) (p .1);
       }
 
   pub parts-accepted : Accepted → writeRefusal W list count records space ≡ 0
@@ -109,7 +109,7 @@ module _ (W : Source) (list : List ℕ) (count records space : ℕ) where
       let lent = right-lengths S (length list) count (length (W .table)) records space (p .lengths) in
       let l = le-leb (S .placed) (blocksOf S) (omega (arith, e)) in
       let all : Hold checks = (p .size, (lent, (p .sides, (l, (eq-eqb (S .placed) (blocksOf S) e, (p .sound, tt)))))) in
-      passes checks recordsRefusal all ∙ all-first (λ i. writtenRefusal (S .n) list count (W .record-at i)) (blocksOf S) (p .each)
+      passes checks recordsRefusal all ∙ all-first (λ i. writtenRefusal (S .n) list count (length (W .table)) (W .record-at i)) (blocksOf S) (p .each)
 
   -- the refusal as the code finds it: of what is checked first, then of the records
   pub write-first : {x : ℕ} → x ≡ refusal checks 0 → (x ≡ 0 → ⊥) → x ≡ writeRefusal W list count records space
@@ -137,7 +137,7 @@ module _ (W : Source) (list : List ℕ) (count records space : ℕ) where
       }
 
   pub accepted-small : Accepted → (i : ℕ) → i < blocksOf (W .sheet) → Small (W .record-at i)
-  accepted-small p i h = record-small (W .sheet .n) list count true (W .record-at i) (p .lengths .few) (p .each i h)
+  accepted-small p i h = record-small (W .sheet .n) list count true (length (W .table)) (W .record-at i) (p .lengths .few) (p .each i h)
 
 -- ---- the loop that looks for the first refusal
 

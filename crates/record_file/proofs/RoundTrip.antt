@@ -96,7 +96,7 @@ module _
           each = λ i h.
               let k : i < blocksOf (W .sheet) = omega (arith, length-listOf (W .record-at) (blocksOf (W .sheet))) in
               rw (listOf-at (W .record-at) noRecord (blocksOf (W .sheet)) i k)
-              (read-sound (W .sheet .n) list count (textured texture) (W .record-at i) (λ e. lt-ltb 0 (length texture) (lent i k e)) (p .each i k));
+              (read-sound (W .sheet .n) list count (textured texture) (length (W .table)) (W .record-at i) (λ e. lt-ltb 0 (length texture) (lent i k e)) (p .each i k));
         }
 
     -- A written file, read with the same list and count for its size, and with texture where it holds kind 1, gives back what was written.
@@ -157,5 +157,5 @@ module _
           sound = parts-table (F .table) (z .some) (z .values) (f .values) (f .rises);
           each = λ i l.
               let k : i < length (F .records) = omega (arith, w) in
-              rw (same i k) (written-sound (F .n) (A .list (F .n)) (A .count (F .n)) (textured (A .texture)) (getD (F .records) i noRecord) (f .each i k));
+              rw (same i k) (written-sound (F .n) (A .list (F .n)) (A .count (F .n)) (textured (A .texture)) (length (F .table)) (getD (F .records) i noRecord) (f .each i k));
         })

@@ -9,7 +9,7 @@ use Rattle.arith.specs.Lists.{listOf}
 use Rattle.depth_table.specs.Table.{tableOk, bytes, rising}
 use Rattle.depth_table.specs.Examples.{sampleTable}
 use Rattle.pattern.specs.Words.{patternAt, patternsOf}
-use Rattle.depth_table.specs.Offset.{offsetOk}
+use Rattle.depth_table.specs.Offset.{offsetOk, offsetUsable}
 use Rattle.sheet_grid.specs.Grid.{mostSamples, mostBlocks}
 use Rattle.sheet.specs.State.{stateOf}
 use Rattle.record.specs.Meaning.{recordRefusal}
@@ -81,16 +81,17 @@ pub record ReadCases : Type 0 where
   -- a value's line: 3
   pub not-rising : reading sampleAids (written (100 ∷ 128 ∷ 128 ∷ []) sampleRecord) ≡ refusedAt 3 6
   pub value-above : reading sampleAids (written (100 ∷ 256 ∷ []) sampleRecord) ≡ refusedAt 3 5
-  -- a record's line: 7, 21, 6, 4, and 5 for a word with a bit from 16 up
+  -- a record's line: 7, 21, 6, 4, 24, and 5 for a word with a bit from 16 up
   pub kind : reading sampleAids (written sampleTable (recordOf 2 0 (pos 0) (pos 0))) ≡ refusedAt 7 8
   pub contour-entry : reading sampleAids (written sampleTable (recordOf 1 1 (pos 0) (pos 0))) ≡ refusedAt 7 8
   pub no-texture : reading sampleAids (written sampleTable (recordOf 1 0 (pos 256) (pos 0))) ≡ refusedAt 21 8
   pub entry : reading sampleAids (written sampleTable (recordOf 0 1 (pos 256) (pos 0))) ≡ refusedAt 6 8
   pub offset : reading sampleAids (written sampleTable (recordOf 0 0 (pos 256) (pos 0))) ≡ refusedAt 4 8
+  pub unusable : reading sampleAids (written sampleTable (recordOf 0 0 (pos 0) (negsuc 2))) ≡ refusedAt 24 8
   pub word : reading (aidsOf (65536 ∷ []) 1 [] 0 [] 0 []) sampleFile ≡ refusedAt 5 8
 
 read-cases : ReadCases
-unfolding readFile readLengthsOk patternsOf patternAt listOf fileLines sizeMeaning valueMeaning recordRefusal offsetOk exactly
+unfolding readFile readLengthsOk patternsOf patternAt listOf fileLines sizeMeaning valueMeaning recordRefusal offsetOk offsetUsable exactly
     sizeTitle depthTitle recordTitle sizeLine valueLine recordLine manyLines number signed moreDigits
     fileText sizeText valueText recordText texts numberText signedText signedNumeral numeral digitsOf furtherDigits
 read-cases =
@@ -112,6 +113,7 @@ read-cases =
       no-texture = refl;
       entry = refl;
       offset = refl;
+      unusable = refl;
       word = refl;
     }
 
@@ -125,7 +127,7 @@ pub record WriteCases : Type 0 where
   pub block-missing : writing 0 124 ≡ refused 22
 
 write-cases : WriteCases
-unfolding writeAnswer writeRefusal writeLengthsOk tableOk bytes rising firstTo listOf recordRefusal offsetOk
+unfolding writeAnswer writeRefusal writeLengthsOk tableOk bytes rising firstTo listOf recordRefusal offsetOk offsetUsable
     sizeTitle depthTitle recordTitle fileText sizeText valueText recordText texts numberText signedText signedNumeral numeral
     digitsOf furtherDigits
 write-cases = record { length-given = refl; short-space = refl; block-missing = refl }

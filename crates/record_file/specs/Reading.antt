@@ -66,9 +66,10 @@ valueMeaning low v = refusal ((ltb v 256 && leb low v, 3) ∷ []) 0
 abbrev pub lowAfter : ℕ → ℕ → ℕ
 lowAfter low v = suc v
 
--- the meaning of a record's line for blocks of size n: 7, 21, 6, 5, 4; no line depends on the ones before it
-abbrev pub recordLineMeaning : ℕ → Aids → Unit {0} → Record → ℕ
-recordLineMeaning n A c r = recordRefusal n (A .list n) (A .count n) (textured (A .texture)) r
+-- the meaning of a record's line for blocks of size n, where the file's table has so many values: 7, 21, 6, 5, 4, 24; no line depends on
+-- the records before it
+abbrev pub recordLineMeaning : ℕ → Aids → ℕ → Unit {0} → Record → ℕ
+recordLineMeaning n A values c r = recordRefusal n (A .list n) (A .count n) (textured (A .texture)) values r
 
 abbrev pub unchanged : Unit {0} → Record → Unit {0}
 unchanged c r = c
@@ -77,12 +78,12 @@ unchanged c r = c
 abbrev pub valueLines : ℕ → ℕ → List ℕ → Lined (List ℕ)
 valueLines m k s = manyLines valueLine valueMeaning lowAfter m k 0 s
 
-abbrev pub recordLines : ℕ → Aids → ℕ → ℕ → List ℕ → Lined (List Record)
-recordLines n A m k s = manyLines recordLine (recordLineMeaning n A) unchanged m k tt s
+abbrev pub recordLines : ℕ → Aids → ℕ → ℕ → ℕ → List ℕ → Lined (List Record)
+recordLines n A values m k s = manyLines recordLine (recordLineMeaning n A values) unchanged m k tt s
 
 -- m records from line k on, and nothing after them: what is left is the line after the last
-abbrev pub lastLines : ℕ → Aids → ℕ → ℕ → List ℕ → Lined (List Record)
-lastLines n A m k s = linesThen (recordLines n A m k s) λ records s. ended (k + m) records s
+abbrev pub lastLines : ℕ → Aids → ℕ → ℕ → ℕ → List ℕ → Lined (List Record)
+lastLines n A values m k s = linesThen (recordLines n A values m k s) λ records s. ended (k + m) records s
 
 -- the first three lines
 abbrev pub headLines : ℕ → List ℕ → Lined SizeFields
@@ -108,7 +109,7 @@ blocksIn z = blocks (z .n) (z .width) (z .height)
 
 -- the records after line 4 + values, and nothing after them
 abbrev pub restLines : Aids → SizeFields → List ℕ → Lined (List Record)
-restLines A z s = lastLines (z .n) A (blocksIn z) (5 + z .values) s
+restLines A z s = lastLines (z .n) A (z .values) (blocksIn z) (5 + z .values) s
 
 -- the whole text
 unfoldable pub fileLines : Aids → List ℕ → Lined File

@@ -61,9 +61,9 @@ pub record HeadFits (S : Sheet) (values : ℕ) : Type 0 where
   pub height : S .height ≤ longest
   pub table : values ≤ mostValues
 
--- a record is written without texture, so that 21 is not given: 7, 6, 5, 4
-abbrev pub writtenRefusal : ℕ → List ℕ → ℕ → Record → ℕ
-writtenRefusal n list count r = recordRefusal n list count true r
+-- a record is written without texture, so that 21 is not given: 7, 6, 5, 4, 24; values is how many the table has
+abbrev pub writtenRefusal : ℕ → List ℕ → ℕ → ℕ → Record → ℕ
+writtenRefusal n list count values r = recordRefusal n list count true values r
 
 -- 1, 2, 8, 23; 22: blocks are missing; 3: the table; records and space are the lengths of what is lent
 abbrev pub writeChecks : Sheet → List ℕ → ℕ → ℕ → ℕ → ℕ → List (Bool × ℕ)
@@ -75,7 +75,7 @@ writeChecks S table patterns count records space =
 unfoldable pub writeRefusal : Source → List ℕ → ℕ → ℕ → ℕ → ℕ
 writeRefusal W list count records space =
     refusal (writeChecks (W .sheet) (W .table) (length list) count records space)
-    (firstTo (λ i. writtenRefusal (W .sheet .n) list count (W .record-at i)) (blocksOf (W .sheet)))
+    (firstTo (λ i. writtenRefusal (W .sheet .n) list count (length (W .table)) (W .record-at i)) (blocksOf (W .sheet)))
 
 -- the text that is written
 abbrev pub writtenText : Source → List ℕ

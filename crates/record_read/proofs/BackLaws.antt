@@ -140,7 +140,7 @@ module _ (A : Aids) (s : List ℕ) (f : Front) (front : FrontRead (length (A .te
   -- the file, once those lines are read
   pub file-is : fileLines A s ≡ sheetLines A f s
   unfolding fileLines
-  file-is = rw (front .is, table-is)
+  file-is = rw (front .is, table-is, front .count)
 
   -- as much is copied as the answered sheet has
   pub back-few :
@@ -169,7 +169,7 @@ module _ (A : Aids) (s : List ℕ) (f : Front) (front : FrontRead (length (A .te
 
     module _ {samples : List ℕ} {records : List (List ℤ)} {r : FileBack} where
       sheet-of :
-          (c : Cursor) (l : List Record) (u : List ℕ) → blockLines A (begunAt f) s ≡ read l u
+          (c : Cursor) (l : List Record) (u : List ℕ) → blockLines A (length (tableOf f)) (begunAt f) s ≡ read l u
           → _≡_ {A = Left} (take (areaOf f) drawn, kept) (placed l) → r ≡ backBy f (linesRead.Done c) → Copied samples records (backBy f (linesRead.Done c))
           → Leaves A (sheetLines A f s) before r (lentOf samples records)
       unfolding samplesBack
@@ -199,9 +199,9 @@ module _ (A : Aids) (s : List ℕ) (f : Front) (front : FrontRead (length (A .te
           → Leaves A (sheetLines A f s) before r (lentOf samples records)
       sheet-left (linesRead.Refused n k) q e es =
           let h = subst (Copied samples records) e es in
-          rw (h .0, h .1) (all-refused A before (rw (only-refused (blockLines A (begunAt f) s) (q .told))) e)
+          rw (h .0, h .1) (all-refused A before (rw (only-refused (blockLines A (length (tableOf f)) (begunAt f) s) (q .told))) e)
       sheet-left (linesRead.Done c) q e es =
-          let o = only-read (blockLines A (begunAt f) s) (drop (c .at) s) (q .told) in
+          let o = only-read (blockLines A (length (tableOf f)) (begunAt f) s) (drop (c .at) s) (q .told) in
           sheet-of c (o .value) (drop (c .at) s) (o .is)
           (subst (λ (x : Lined (List Record)). PutIf placed x (take (areaOf f) drawn, kept)) (o .is) (q .left)) e (subst (Copied samples records) e es)
 
@@ -239,5 +239,5 @@ read-as words4 words8 words16 count4 count8 count16 texture s f {before = before
     (record {
       answered = l .answered;
       kept = l .kept;
-      drawn = lent-as A B f (before .samples) refl (blockLines B (begunAt f) s) (l .drawn);
+      drawn = lent-as A B f (before .samples) refl (blockLines B (length (tableOf f)) (begunAt f) s) (l .drawn);
     })

@@ -50,12 +50,12 @@ in-turn-ext S M f g s (suc k) h = rw (in-turn-ext S M f g s k (λ i l. h i (omeg
 -- where the table is as asked, placing refuses what the meaning of the record's line refuses
 pub place-means :
     (A : Aids) (table : List ℕ) (S : Sheet) (samples : ℕ) {asked : Bool} → Fits S (materialFor A (S .n) table) samples → asked ≡ true
-    → (f : Record) → placeRefusalBy asked S samples (materialFor A (S .n) table) f ≡ recordLineMeaning (S .n) A tt f
+    → (f : Record) → placeRefusalBy asked S samples (materialFor A (S .n) table) f ≡ recordLineMeaning (S .n) A (length table) tt f
 unfolding placeRefusalBy
 place-means A table S samples {asked} p as-asked f =
     let patterns = length (A .list (S .n)) in
     let texture = length (A .texture) in
-    open-none S (lengthsOk S samples patterns (A .count (S .n)) texture) asked (recordLineMeaning (S .n) A tt f) (p .is-open)
+    open-none S (lengthsOk S samples patterns (A .count (S .n)) texture) asked (recordLineMeaning (S .n) A (length table) tt f) (p .is-open)
     (lengths-do S samples patterns (A .count (S .n)) texture (p .lengths)) as-asked
 
 -- also after k blocks, where one is missing

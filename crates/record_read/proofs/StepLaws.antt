@@ -47,12 +47,12 @@ module _
     abbrev refusal : Record → ℕ
     refusal f = placeRefusalBy (someValue table) (r .sheet) (length t) material f
 
-    means : (f : Record) → refusal f ≡ recordLineMeaning (r .sheet .n) A tt f
+    means : (f : Record) → refusal f ≡ recordLineMeaning (r .sheet .n) A (length table) tt f
     means = place-means A table (r .sheet) (length t) ok (ok .valued)
 
     -- the line has another form
     pub step-bad : {t′ : List ℕ} → recordLine (drop (r .at) s) ≡ badForm → Steps A table r s t t′ (stepped.Refused 9 (r .line))
-    step-bad e = record { told = sym (line-bad (r .line) (recordLineMeaning (r .sheet .n) A tt) read e); stood = tt }
+    step-bad e = record { told = sym (line-bad (r .line) (recordLineMeaning (r .sheet .n) A (length table) tt) read e); stood = tt }
 
     -- it has its form, and the record is placed, or refused
     module _ {f : Record} (at : ℕ) (form : recordLine (drop (r .at) s) ≡ found f (drop at s)) where
@@ -63,7 +63,7 @@ module _
       step-next {S} a d =
           let g = given-means (refusal f) (after 1 (r .sheet)) S (sym a) in
           record {
-            told = sym (line-read (r .line) (recordLineMeaning (r .sheet .n) A tt) read form (sym (means f) ∙ g .0));
+            told = sym (line-read (r .line) (recordLineMeaning (r .sheet .n) A (length table) tt) read form (sym (means f) ∙ g .0));
             stood = (refl, sym (g .1), rw (g .0) at d);
           }
 
@@ -76,7 +76,7 @@ module _
           record {
             told =
                 ap (λ (k : ℕ). refusedAt k (r .line)) (g .0 ∙ means f)
-                ∙ sym (line-refused (r .line) (recordLineMeaning (r .sheet .n) A tt) read form (λ z. g .1 (means f ∙ z)));
+                ∙ sym (line-refused (r .line) (recordLineMeaning (r .sheet .n) A (length table) tt) read form (λ z. g .1 (means f ∙ z)));
             stood = tt;
           }
 
@@ -133,7 +133,7 @@ module _ (A : Aids) (table : List ℕ) (from : Reading) (s : List ℕ) (old : Le
   pub record Turned (i : ℕ) (r : Reading) (samples : List ℕ) (records : List (List ℤ)) : Type 0 where
     pub stands : r ≡ readingAt i (r .at)
     pub going :
-        Going recordLine (recordLineMeaning (S .n) A) unchanged m (from .line) tt (drop (from .at) s) i tt (drop (r .at) s)
+        Going recordLine (recordLineMeaning (S .n) A (length table)) unchanged m (from .line) tt (drop (from .at) s) i tt (drop (r .at) s)
         (λ l. (samples ≡ placedInTurn S M (inTurn l) (old .0) i) × (records ≡ recordsOver l (old .1)))
 
   pub turned-start : Turned 0 from (old .0) (old .1)
@@ -141,17 +141,17 @@ module _ (A : Aids) (table : List ℕ) (from : Reading) (s : List ℕ) (old : Le
       record {
         stands = rw (add-zero (from .line), add-zero (S .placed));
         going =
-            going-start recordLine (recordLineMeaning (S .n) A) unchanged m (from .line) tt (drop (from .at) s)
+            going-start recordLine (recordLineMeaning (S .n) A (length table)) unchanged m (from .line) tt (drop (from .at) s)
             (in-turn-none S M (inTurn []) (old .0), refl);
       }
 
   module _ {i : ℕ} {r : Reading} {samples : List ℕ} {records : List (List ℤ)} (now : Turned i r samples records) where
     -- the line as the loop counts it
     step-told :
-        {x : Lined Record} → x ≡ line (r .line) (recordLine (drop (r .at) s)) (recordLineMeaning (r .sheet .n) A tt) read
-        → x ≡ line (from .line + i) (recordLine (drop (r .at) s)) (recordLineMeaning (S .n) A tt) read
+        {x : Lined Record} → x ≡ line (r .line) (recordLine (drop (r .at) s)) (recordLineMeaning (r .sheet .n) A (length table) tt) read
+        → x ≡ line (from .line + i) (recordLine (drop (r .at) s)) (recordLineMeaning (S .n) A (length table) tt) read
     step-told {x} e =
-        subst (λ (q : Reading). x ≡ line (q .line) (recordLine (drop (r .at) s)) (recordLineMeaning (q .sheet .n) A tt) read) (now .stands) e
+        subst (λ (q : Reading). x ≡ line (q .line) (recordLine (drop (r .at) s)) (recordLineMeaning (q .sheet .n) A (length table) tt) read) (now .stands) e
 
     -- the next record can be placed, and its line's number is small
     pub turned-begun :
@@ -177,7 +177,7 @@ module _ (A : Aids) (table : List ℕ) (from : Reading) (s : List ℕ) (old : Le
         record {
           stands = reading-is next number sheet;
           going =
-              going-more recordLine (recordLineMeaning (S .n) A) unchanged m (from .line) tt (drop (from .at) s) (now .going) h
+              going-more recordLine (recordLineMeaning (S .n) A (length table)) unchanged m (from .line) tt (drop (from .at) s) (now .going) h
               (λ l. (drawn ≡ placedInTurn S M (inTurn l) (old .0) (i + 1)) × (set records i v ≡ recordsOver l (old .1)))
               (step-told (st .told)) refl
               (λ l c k. (placed-more S M (old .0) l f c (k .0) placed, stored-more l f (old .1) c (k .1) room same));
@@ -188,14 +188,14 @@ module _ (A : Aids) (table : List ℕ) (from : Reading) (s : List ℕ) (old : Le
         → ReadsAll A table from s old new (linesRead.Refused n k)
     turned-refused {n} {k} {drawn} h e step =
         let st = subst (Steps A table r s samples drawn) e step in
-        let q : recordLines (S .n) A m (from .line) (drop (from .at) s) ≡ refusedAt n k =
-        going-refused recordLine (recordLineMeaning (S .n) A) unchanged m (from .line) tt (drop (from .at) s) (now .going) h (step-told (st .told)) in
+        let q : recordLines (S .n) A (length table) m (from .line) (drop (from .at) s) ≡ refusedAt n k =
+        going-refused recordLine (recordLineMeaning (S .n) A (length table)) unchanged m (from .line) tt (drop (from .at) s) (now .going) h (step-told (st .told)) in
         record { told = rw q; left = rw q tt }
 
     -- all blocks are read: something is left, or nothing is
     module _ (last : i ≡ m) where
-      all : recordLines (S .n) A m (from .line) (drop (from .at) s) ≡ read (now .going .values) (drop (r .at) s)
-      all = going-end recordLine (recordLineMeaning (S .n) A) unchanged m (from .line) tt (drop (from .at) s) (now .going) (omega (arith, last))
+      all : recordLines (S .n) A (length table) m (from .line) (drop (from .at) s) ≡ read (now .going .values) (drop (r .at) s)
+      all = going-end recordLine (recordLineMeaning (S .n) A (length table)) unchanged m (from .line) tt (drop (from .at) s) (now .going) (omega (arith, last))
 
       pub turned-past : {new : Left} → r .at < length s → ReadsAll A table from s old new (linesRead.Refused 9 (r .line))
       turned-past h =

@@ -42,7 +42,7 @@ Stood M r old new (stepped.Refused n k) = Unit {0}
 
 -- a step from r over the bytes s, where the samples are old before and new afterwards
 pub record Steps (A : Aids) (table : List ℕ) (r : Reading) (s old new : List ℕ) (t : Stepped) : Type 0 where
-  pub told : stepTold s t ≡ line (r .line) (recordLine (drop (r .at) s)) (recordLineMeaning (r .sheet .n) A tt) read
+  pub told : stepTold s t ≡ line (r .line) (recordLine (drop (r .at) s)) (recordLineMeaning (r .sheet .n) A (length table) tt) read
   pub stood : Stood (materialFor A (r .sheet .n) table) r old new t
 
 -- ---- all blocks of an empty sheet, and the end of the bytes
@@ -54,8 +54,8 @@ pub record Begun (A : Aids) (table : List ℕ) (r : Reading) (samples records : 
   pub room : blocksOf (r .sheet) ≤ records
   pub low : r .line ≤ 1000
 
-abbrev pub blockLines : Aids → Reading → List ℕ → Lined (List Record)
-blockLines A r s = lastLines (r .sheet .n) A (blocksOf (r .sheet)) (r .line) (drop (r .at) s)
+abbrev pub blockLines : Aids → ℕ → Reading → List ℕ → Lined (List Record)
+blockLines A values r s = lastLines (r .sheet .n) A values (blocksOf (r .sheet)) (r .line) (drop (r .at) s)
 
 -- the samples and the records that are left once k records are placed in turn and stored
 abbrev pub Left : Type 0
@@ -66,8 +66,8 @@ placedAll M S old k l = (placedInTurn S M (inTurn l) (old .0) k, recordsOver l (
 
 -- all steps from r over the bytes s, with what is lent before and afterwards
 pub record ReadsAll (A : Aids) (table : List ℕ) (r : Reading) (s : List ℕ) (old new : Left) (t : LinesRead) : Type 0 where
-  pub told : linesTold s t ≡ only (blockLines A r s)
-  pub left : PutIf (placedAll (materialFor A (r .sheet .n) table) (r .sheet) old (blocksOf (r .sheet))) (blockLines A r s) new
+  pub told : linesTold s t ≡ only (blockLines A (length table) r s)
+  pub left : PutIf (placedAll (materialFor A (r .sheet .n) table) (r .sheet) old (blocksOf (r .sheet))) (blockLines A (length table) r s) new
 
 -- ---- after the lines before the records
 
@@ -104,7 +104,7 @@ abbrev pub withFront : Front → Lined (List Record) → Lined File
 withFront f x = linesThen x (λ l v. read (fileOf (f .n) (f .width) (f .height) (tableOf f) l) v)
 
 abbrev pub sheetLines : Aids → Front → List ℕ → Lined File
-sheetLines A f s = withFront f (blockLines A (begunAt f) s)
+sheetLines A f s = withFront f (blockLines A (length (tableOf f)) (begunAt f) s)
 
 -- the answer after the records were read
 abbrev pub backBy : Front → LinesRead → FileBack

@@ -80,11 +80,11 @@ pub(crate) fn first_refusal(
     )
 }
 
-// The refusal of a record, or 0; no texture is asked for.
-fn record_refusal(n: usize, list: &[u64], count: usize, r: Record) -> u8
-    ensures { λ t. ⌜ t ≡ writtenRefusal n (patternsOf n (now (list .entry))) count r ⌝ }
+// The refusal of a record, or 0, where the table has so many values; no texture is asked for.
+fn record_refusal(n: usize, list: &[u64], count: usize, values: usize, r: Record) -> u8
+    ensures { λ t. ⌜ t ≡ writtenRefusal n (patternsOf n (now (list .entry))) count values r ⌝ }
 {
-    match meaning_of(n, list, count, true, r) {
+    match meaning_of(n, list, count, true, values, r) {
         Meaning::Listed(_) => 0,
         Meaning::Contour => 0,
         Meaning::Refused(number) => number,
@@ -96,18 +96,19 @@ pub(crate) fn records_refusal(
     n: usize,
     list: &[u64],
     count: usize,
+    values: usize,
     m: usize,
     records: &[[i32; 4]],
 ) -> u8
     requires { ⌜ m ≤ length (now records) ⌝ }
     ensures { λ r.
         let l = patternsOf n (now (list .entry)) in
-        ⌜ r ≡ firstTo (λ i. writtenRefusal n l count (recordAt (now (records .entry)) i)) m ⌝ }
+        ⌜ r ≡ firstTo (λ i. writtenRefusal n l count values (recordAt (now (records .entry)) i)) m ⌝ }
 {
     let mut refusal = 0;
     for i in 0..m {
         if refusal == 0 {
-            refusal = record_refusal(n, list, count, record_in(records[i]));
+            refusal = record_refusal(n, list, count, values, record_in(records[i]));
         }
     }
     refusal

@@ -101,7 +101,7 @@ fn put_file(out: &mut [u8], sheet: Sheet, table: &[u8], m: usize, records: &[[i3
     end.at
 }
 
-// Writes a finished sheet's file and answers its length, or refuses with 1, 2, 8, 23, 22, 3, 7, 6, 5 or 4 and writes nothing.
+// Writes a finished sheet's file and answers its length, or refuses with 1, 2, 8, 23, 22, 3, 7, 6, 5, 4 or 24 and writes nothing.
 pub fn write(
     sheet: Sheet,
     list: &[u64],
@@ -124,7 +124,7 @@ pub fn write(
         return Wrote::Refused(first);
     }
     let m = sheet.blocks() as usize;
-    let bad = records_refusal(sheet.n as usize, list, count, m, records);
+    let bad = records_refusal(sheet.n as usize, list, count, table.len(), m, records);
     if bad != 0 {
         return Wrote::Refused(bad);
     }

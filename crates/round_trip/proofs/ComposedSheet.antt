@@ -73,7 +73,8 @@ module _ (S : Sheet) (T : Task) (C : Lent) where
 
     record-right :
         (i : ℕ) → i < missing S
-        → recordRefusal (S .n) (T .material .list) (T .material .count) (textured (T .material .texture)) (composedRecord S T (C .samples) i) ≡ 0
+        → recordRefusal (S .n) (T .material .list) (T .material .count) (textured (T .material .texture)) (length (T .material .table))
+        (composedRecord S T (C .samples) i) ≡ 0
     unfolding placeRefusalBy
     record-right i h =
         let M = T .material in
@@ -98,7 +99,7 @@ module _ (S : Sheet) (T : Task) (C : Lent) where
         let r = composedRecord S T (C .samples) i in
         ap recordIn (fields-at i h)
         ∙ record-back r
-        (small-lendable r (record-small (S .n) (M .list) (M .count) (textured (M .texture)) r (ready .lengths .few) (record-right i h)))
+        (small-lendable r (record-small (S .n) (M .list) (M .count) (textured (M .texture)) (length (M .table)) r (ready .lengths .few) (record-right i h)))
 
     -- and there is a place for each
     pub composed-room : missing S ≤ length (recordsComposed S T C)
@@ -175,7 +176,7 @@ module _
     checked :
         (i : ℕ) → i < blocksOf S
         → Opened (after i (emptied S)) (lengthsOk (after i (emptied S)) (length first) (length (M .list)) (M .count) (length (M .texture))) (tableOk (M .table))
-        × (recordRefusal (S .n) (M .list) (M .count) (textured (M .texture)) (at i) ≡ 0)
+        × (recordRefusal (S .n) (M .list) (M .count) (textured (M .texture)) (length (M .table)) (at i) ≡ 0)
     unfolding placeRefusalBy
     checked i h =
         opened (after i (emptied S)) (lengthsOk (after i (emptied S)) (length first) (length (M .list)) (M .count) (length (M .texture))) (tableOk (M .table)) _ (each i h)
@@ -197,7 +198,7 @@ module _
           sides = o .is .sides;
           done = refl;
           sound = o .sound;
-          each = λ i l. written-sound (S .n) (M .list) (M .count) (textured (M .texture)) (at i) (checked i l .1);
+          each = λ i l. written-sound (S .n) (M .list) (M .count) (textured (M .texture)) (length (M .table)) (at i) (checked i l .1);
         })
 
     -- the texture is right for reading them
@@ -206,6 +207,6 @@ module _
         record {
           size = lengths .optional;
           lent = λ i l e.
-              let r = record-sound (S .n) (M .list) (M .count) (textured (M .texture)) (at i) (checked i l .1) in
+              let r = record-sound (S .n) (M .list) (M .count) (textured (M .texture)) (length (M .table)) (at i) (checked i l .1) in
               ltb-true 0 (length (M .texture)) (⊎-elim (λ w. absurd (omega (arith, e, w .0))) (λ w. w .2) (r .names));
         }

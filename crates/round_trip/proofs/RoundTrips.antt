@@ -168,7 +168,7 @@ module _ (A : Aids) (L : Lent) (F : File) (s t old : List ℕ) (accepted : readi
       let p = read-parts A (length (L .samples)) (length (L .records)) F s t accepted in
       let size = size-small (length (A .texture)) _ (p .1 .sound .size) .size in
       let r = getD (F .records) i noRecord in
-      let small = record-small (F .n) (A .list (F .n)) (A .count (F .n)) (textured (A .texture)) r (p .0 .few (F .n) size) (p .1 .sound .each i h) in
+      let small = record-small (F .n) (A .list (F .n)) (A .count (F .n)) (textured (A .texture)) (length (F .table)) r (p .0 .few (F .n) size) (p .1 .sound .each i h) in
       ap recordIn
       (List·getD-append (map fieldsOf (F .records)) (drop (length (F .records)) (L .records)) [] i (omega (arith, length-map (F .records) fieldsOf))
       ∙ map-at fieldsOf (F .records) i [] noRecord h)

@@ -5,12 +5,10 @@ use mathlib.Core.List.{List, []}
 use mathlib.Core.Logic.{_⊎_, inl, inr, ⊎-elim}
 use mathlib.Core.Path.{_≡_, refl, sym, ap, _∙_}
 use native.Mathlib.Omega.{arith}
-use borrow.Author.Tests.{le-leb, lt-ltb}
-use lib.IntN.{ℤ, natAbs}
+use borrow.Author.Tests.{lt-ltb}
 use lib.ListN.{length}
 use Rattle.depth_table.specs.Table.{tableOk}
 use Rattle.pattern.proofs.SizeLaws.{one-le-square}
-use Rattle.depth_table.specs.Offset.{offsetOk}
 use Rattle.choice.specs.Case.{Case, caseOf}
 use Rattle.choice.specs.Refusal.{chooseRefusal}
 use Rattle.record.specs.declared.Record.{Record}
@@ -20,6 +18,7 @@ use Rattle.choice.proofs.AcceptLaws as accept
 use Rattle.choice.proofs.AcceptLaws.{words-at, accepted}
 use Rattle.choice.proofs.LeastLaws.{chosen-least}
 use Rattle.choice.proofs.AnswerLaws.{refused-for, given-for}
+use Rattle.choice.proofs.ReachLaws.{reach-enough}
 use Rattle.sheet_grid.specs.Samples.{cut, written}
 use Rattle.sheet_grid.proofs.NeighbourLaws.{length-neighbours}
 use Rattle.sheet_grid.proofs.SampleLaws.{length-cut}
@@ -55,28 +54,24 @@ textured-next S t h = go (textured t) _ (rw (length-cut (S .n) (S .width) _ _ t)
 
 -- ---- a record that was chosen is not refused
 
--- an offset within a reach that is allowed
-offset-in : (reach : ℕ) (z : ℤ) → reach ≤ 255 → natAbs z ≤ reach → offsetOk z ≡ true
-unfolding offsetOk
-offset-in reach z l h = le-leb (natAbs z) 255 (omega arith)
-
 module _ (C : Case) (none : chooseRefusal C ≡ 0) where
   abbrev best : Record
   best = chosen C .0
 
-  chosen-sound : recordRefusal (C .n) (C .list) (C .count) (textured (C .texture)) best ≡ 0
+  chosen-sound : recordRefusal (C .n) (C .list) (C .count) (textured (C .texture)) (length (C .table)) best ≡ 0
   chosen-sound =
       let a = accepted C none in
       let w = chosen-least C (a .some) .within in
-      sound-record (C .n) (C .list) (C .count) (textured (C .texture)) best
+      let p = reach-enough C .passes none best w in
+      sound-record (C .n) (C .list) (C .count) (textured (C .texture)) (length (C .table)) best
       (record {
         names =
             ⊎-elim
             (λ p. inl (p .0, p .1, words-at (C .n) (C .list) (C .count) (a .words) (best .entry) (p .1)))
             (λ p. inr (p .0, p .1, lt-ltb 0 (length (C .texture)) (p .2)))
             (w .pattern-in);
-        first = offset-in (C .reach) (best .off0) (a .near) (w .off0-in);
-        second = offset-in (C .reach) (best .off1) (a .near) (w .off1-in);
+        allowed = p .0;
+        usable = p .1 .0;
       })
 
 -- ---- the choice for a block is refused where composing is
@@ -106,7 +101,7 @@ module _ (S : Sheet) (T : Task) (s : List ℕ) (o : Open S) (words : T .material
     chosen-best = chosen-least (composeCase S T s) (accepted (composeCase S T s) (choose-refusal ∙ none) .some)
 
     pub chosen-record :
-        recordRefusal (S .n) (T .material .list) (T .material .count) (textured (T .material .texture)) (chosenNext S T s) ≡ 0
+        recordRefusal (S .n) (T .material .list) (T .material .count) (textured (T .material .texture)) (length (T .material .table)) (chosenNext S T s) ≡ 0
     chosen-record =
         rw (sym (textured-next S (T .material .texture) (omega (arith, o .low)))) (chosen-sound (composeCase S T s) (choose-refusal ∙ none))
 

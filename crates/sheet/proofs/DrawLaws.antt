@@ -41,10 +41,10 @@ use Rattle.sheet.proofs.ComposeLaws.{textured-next}
 -- nothing is refused of what can be drawn
 pub drawable-none :
     {n w neighbours samples : ℕ} {t : List ℕ} {off0 off1 : ℤ} → sizeOk n ≡ true → neighbours ≡ 4 * n → samples ≡ n * n → Drawable n w t off0 off1
-    → predictRefusalBy (someValue t) n w neighbours off0 off1 samples ≡ 0
+    → predictRefusalBy (someValue t) n w neighbours (length t) off0 off1 samples ≡ 0
 unfolding predictRefusalBy lengthsOk
 drawable-none size near full p =
-    rw (size, eq-eqb _ _ near, eq-eqb _ _ full, p .valued, p .inside, p .first, p .second)
+    rw (size, eq-eqb _ _ near, eq-eqb _ _ full, p .valued, p .inside, p .allowed, p .usable)
 
 module _ (n word : ℕ) (near t : List ℕ) (off0 off1 : ℤ) (size : sizeOk n ≡ true) (near-full : length near ≡ 4 * n) (able : Drawable n word t off0 off1) where
   -- what prediction leaves at the front of an array
@@ -71,7 +71,7 @@ module _ (n word : ℕ) (near t : List ℕ) (off0 off1 : ℤ) (size : sizeOk n �
 -- the same offsets
 pub drawable-as :
     {n w : ℕ} {t : List ℕ} {off0 off1 y z : ℤ} → off0 ≡ y → off1 ≡ z → Drawable n w t off0 off1 → Drawable n w t y z
-drawable-as e f p = record { inside = p .inside; valued = p .valued; first = rw e at (p .first); second = rw f at (p .second) }
+drawable-as e f p = rw (e, f) at p
 
 -- the samples of a block that is cut, at the front of an array
 pub cut-front :

@@ -10,7 +10,7 @@ use lib.ListN.{length}
 use Rattle.arith.specs.Checks.{unless, refusal}
 use Rattle.arith.proofs.CheckLaws.{later}
 use Rattle.depth_table.specs.Table.{tableOk}
-use Rattle.depth_table.specs.Offset.{offsetOk}
+use Rattle.depth_table.specs.Offset.{offsetChecks}
 use Rattle.pattern.specs.Size.{sizeOk}
 use Rattle.pattern.specs.Answer.{textured}
 use Rattle.record.specs.declared.Record.{Record}
@@ -52,8 +52,8 @@ module _ (S : Sheet) (lengths asked : Bool) (rest : ℕ) where
 
 -- ---- placing
 
-offsets-not : (r : Record) → offsetRefusal r ≡ 20 → ⊥
-offsets-not r e = omega (arith, later ((offsetOk (r .off0), 4) ∷ (offsetOk (r .off1), 4) ∷ []) 0 20 refl e .1)
+offsets-not : (values : ℕ) (r : Record) → offsetRefusal values r ≡ 20 → ⊥
+offsets-not values r e = omega (arith, later (offsetChecks values (r .off0) (r .off1)) 0 20 refl e .1)
 
 kind-not :
     (n : ℕ) (list : List ℕ) (count : ℕ) (lent : Bool) (kind entry : ℕ) {rest : ℕ} → (rest ≡ 20 → ⊥)
@@ -76,7 +76,7 @@ pub place-twenty : (S : Sheet) (samples : ℕ) (M : Material) (r : Record) → p
 unfolding placeRefusalBy recordRefusal
 place-twenty S samples M r =
     open-finished S (lengthsOk S samples (length (M .list)) (M .count) (length (M .texture))) (tableOk (M .table)) _
-    (kind-not (S .n) (M .list) (M .count) (textured (M .texture)) (r .kind) (r .entry) (offsets-not r))
+    (kind-not (S .n) (M .list) (M .count) (textured (M .texture)) (r .kind) (r .entry) (offsets-not (length (M .table)) r))
 
 -- ---- composing
 

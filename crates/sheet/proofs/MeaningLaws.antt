@@ -37,36 +37,36 @@ contour-given n t size full = rw (size, eq-eqb _ _ full)
 module _ (C : Case) (r : Record) where
   -- what the record means
   abbrev pub meaning : Answer Named
-  meaning = recordMeaning (C .n) (C .list) (C .count) (textured (C .texture)) r
+  meaning = recordMeaning (C .n) (C .list) (C .count) (textured (C .texture)) (length (C .table)) r
 
   -- a pattern of the list
   pub case-listed : {w : ℕ} → given (listed w) ≡ meaning → w ≡ patternOf C r
   case-listed e =
-      sym (ap (patternNamed (contourOf (C .n) (C .texture))) (meaning-given (C .n) (C .list) (C .count) (textured (C .texture)) r e .1))
+      sym (ap (patternNamed (contourOf (C .n) (C .texture))) (meaning-given (C .n) (C .list) (C .count) (textured (C .texture)) (length (C .table)) r e .1))
 
   -- the contour of the texture
   pub case-contour : given contour ≡ meaning → contourOf (C .n) (C .texture) ≡ patternOf C r
   case-contour e =
-      sym (ap (patternNamed (contourOf (C .n) (C .texture))) (meaning-given (C .n) (C .list) (C .count) (textured (C .texture)) r e .1))
+      sym (ap (patternNamed (contourOf (C .n) (C .texture))) (meaning-given (C .n) (C .list) (C .count) (textured (C .texture)) (length (C .table)) r e .1))
 
   -- a record that means something is not refused
   pub case-named : {x : Named} → given x ≡ meaning → drawRefusal C r ≡ 0
-  case-named e = meaning-given (C .n) (C .list) (C .count) (textured (C .texture)) r e .0
+  case-named e = meaning-given (C .n) (C .list) (C .count) (textured (C .texture)) (length (C .table)) r e .0
 
   -- the texture is whole where the contour is meant
   pub case-lit : {m : ℕ} → given contour ≡ meaning → (length (C .texture) ≡ 0) ⊎ (length (C .texture) ≡ m) → length (C .texture) ≡ m
   case-lit e =
       ⊎-elim
-      (λ z. absurd (omega (arith, ltb-true 0 (length (C .texture)) (contour-lit (C .n) (C .list) (C .count) (textured (C .texture)) r e))))
+      (λ z. absurd (omega (arith, ltb-true 0 (length (C .texture)) (contour-lit (C .n) (C .list) (C .count) (textured (C .texture)) (length (C .table)) r e))))
       (λ z. z)
 
   -- a record that is not refused can be drawn: its pattern marks samples of the block only, and its offsets are allowed
   module _ (none : drawRefusal C r ≡ 0) where
     pub case-drawable : {w : ℕ} → w ≡ patternOf C r → someValue (C .table) ≡ true → Drawable (C .n) w (C .table) (r .off0) (r .off1)
     case-drawable p some =
-        let q = record-sound (C .n) (C .list) (C .count) (textured (C .texture)) r none in
-        let fits = pattern-fits (C .n) (C .list) (C .count) (textured (C .texture)) r _ (contour-fits (C .n) (C .texture)) none in
-        record { inside = rw p fits; valued = some; first = q .first; second = q .second }
+        let q = record-sound (C .n) (C .list) (C .count) (textured (C .texture)) (length (C .table)) r none in
+        let fits = pattern-fits (C .n) (C .list) (C .count) (textured (C .texture)) (length (C .table)) r _ (contour-fits (C .n) (C .texture)) none in
+        record { inside = rw p fits; valued = some; allowed = q .allowed; usable = q .usable }
 
     -- and what is drawn is its prediction
     pub case-drawn :
@@ -78,5 +78,5 @@ module _ (C : Case) (r : Record) where
   -- the record is refused
   pub case-refused : {k : ℕ} (w i j : ℕ) (s : List ℕ) → refused k ≡ meaning → (k ≡ drawRefusal C r) × (s ≡ lent (drawRefusal C r) (written (C .n) w i j (predictionOf C r) s) s)
   case-refused w i j s e =
-      let m = meaning-refused (C .n) (C .list) (C .count) (textured (C .texture)) r e in
+      let m = meaning-refused (C .n) (C .list) (C .count) (textured (C .texture)) (length (C .table)) r e in
       (m .0, lent-refused (drawRefusal C r) _ s (λ z. m .1 (m .0 ∙ z)))

@@ -11,7 +11,7 @@ use Rattle.arith.specs.Sum.{sumTo}
 use Rattle.depth_table.specs.Examples.{sampleTable}
 use Rattle.depth_table.specs.Table.{bytes, rising, tableOk, nearestTo, indexOf}
 use Rattle.prediction.specs.Sides.{vertEdge, horEdge, ltBy, brBy, lt, br, sideDepth}
-use Rattle.depth_table.specs.Offset.{offsetOk, levelOf}
+use Rattle.depth_table.specs.Offset.{offsetOk, offsetUsable, levelOf}
 use Rattle.prediction.specs.Block.{sampleOf, predicted}
 use Rattle.choice.specs.Cost.{sideCost}
 use Rattle.record.specs.declared.Record.{Record}
@@ -60,11 +60,12 @@ pub record PlaceRefusals : Type 0 where
   pub texture : placeRefusal (oneBlock 0) 16 sampleMaterial (recordOf 1 0 (pos 256) (pos 0)) ≡ 21
   pub entry : placeRefusal (oneBlock 0) 16 sampleMaterial (recordOf 0 2 (pos 256) (pos 0)) ≡ 6
   pub word : placeRefusal (oneBlock 0) 16 sampleMaterial (recordOf 0 1 (pos 256) (pos 0)) ≡ 5
-  pub offset : placeRefusal (oneBlock 0) 16 sampleMaterial (recordOf 0 0 (pos 0) (negsuc 255)) ≡ 4
+  pub offset : placeRefusal (oneBlock 0) 16 sampleMaterial (recordOf 0 0 (pos 3) (negsuc 255)) ≡ 4
+  pub unusable : placeRefusal (oneBlock 0) 16 sampleMaterial (recordOf 0 0 (pos 0) (negsuc 2)) ≡ 24
   pub none : placeRefusal (oneBlock 0) 16 sampleMaterial sampleRecord ≡ 0
 
 pub place-refusals : PlaceRefusals
-unfolding bytes rising tableOk offsetOk lengthsOkBy startRefusalBy recordRefusal placeRefusalBy
+unfolding bytes rising tableOk offsetOk offsetUsable lengthsOkBy startRefusalBy recordRefusal placeRefusalBy
 place-refusals =
     record {
       size = refl;
@@ -79,6 +80,7 @@ place-refusals =
       entry = refl;
       word = refl;
       offset = refl;
+      unusable = refl;
       none = refl;
     }
 

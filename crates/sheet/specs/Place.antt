@@ -7,7 +7,7 @@ use mathlib.Core.Logic.{_⊎_}
 use lib.IntN.{ℤ}
 use lib.ListN.{length}
 use Rattle.arith.specs.Checks.{Answer, answer, lent}
-use Rattle.depth_table.specs.Offset.{offsetOk}
+use Rattle.depth_table.specs.Offset.{offsetsOk, offsetsUsable}
 use Rattle.depth_table.specs.Table.{tableOk, someValue}
 use Rattle.pattern.specs.Size.{sizeOk, wordOk}
 use Rattle.pattern.specs.Answer.{textured}
@@ -52,14 +52,14 @@ drawn S M s r = predictionOf (placeCase S M s) r
 unfoldable pub placedSamples : Sheet → Material → List ℕ → Record → List ℕ
 placedSamples S M s r = written (S .n) (S .width) (nextX S) (nextY S) (drawn S M s r) s
 
--- 7, 21, 6, 5, 4: of a record that is to be drawn for a case, and of one that is to be placed
+-- 7, 21, 6, 5, 4, 24: of a record that is to be drawn for a case, and of one that is to be placed
 abbrev pub drawRefusal : Case → Record → ℕ
-drawRefusal C r = recordRefusal (C .n) (C .list) (C .count) (textured (C .texture)) r
+drawRefusal C r = recordRefusal (C .n) (C .list) (C .count) (textured (C .texture)) (length (C .table)) r
 
 abbrev pub materialRefusal : Sheet → Material → Record → ℕ
-materialRefusal S M r = recordRefusal (S .n) (M .list) (M .count) (textured (M .texture)) r
+materialRefusal S M r = recordRefusal (S .n) (M .list) (M .count) (textured (M .texture)) (length (M .table)) r
 
--- 1, 2, 8, 23, 20, 3, where the table is not as asked, then the record's 7, 21, 6, 5, 4; samples is the length of the lent samples
+-- 1, 2, 8, 23, 20, 3, where the table is not as asked, then the record's 7, 21, 6, 5, 4, 24; samples is the length of the lent samples
 unfoldable pub placeRefusalBy : Bool → Sheet → ℕ → Material → Record → ℕ
 placeRefusalBy asked S samples M r =
     openRefusal S (lengthsOk S samples (length (M .list)) (M .count) (length (M .texture))) asked (materialRefusal S M r)
@@ -102,12 +102,12 @@ pub record Site (n w samples x y neighbours : ℕ) : Type 0 where
   pub inside : Inside n w samples x y
   pub bordered : neighbours ≡ 4 * n
 
--- a pattern of the block, a table that has a value, and two offsets
+-- a pattern of the block, a table that has a value, and two offsets that it can use
 pub record Drawable (n w : ℕ) (t : List ℕ) (off0 off1 : ℤ) : Type 0 where
   pub inside : wordOk n w ≡ true
   pub valued : someValue t ≡ true
-  pub first : offsetOk off0 ≡ true
-  pub second : offsetOk off1 ≡ true
+  pub allowed : offsetsOk off0 off1 ≡ true
+  pub usable : offsetsUsable (length t) off0 off1 ≡ true
 
 -- a block's own texture: none, or as many samples as it has
 abbrev pub Lit : ℕ → ℕ → Type 0

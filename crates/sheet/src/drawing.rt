@@ -80,7 +80,7 @@ fn contour_of(n: usize, light: &[u8]) -> Pattern
 }
 
 // Puts the predicted block of a record at (x, y), from its neighbours and its own texture, an empty one where none is lent; or answers
-// the number of its refusal, 7, 21, 6, 5 or 4, and puts nothing.
+// the number of its refusal, 7, 21, 6, 5, 4 or 24, and puts nothing.
 pub(crate) fn draw(
     samples: &mut [u8],
     width: usize,
@@ -107,7 +107,7 @@ pub(crate) fn draw(
     let textured = 0 < light.len();
     let off0 = r.off0;
     let off1 = r.off1;
-    let p = match meaning_of(n, list, count, textured, r) {
+    let p = match meaning_of(n, list, count, textured, table.len(), r) {
         Meaning::Listed(p) => p,
         Meaning::Contour => contour_of(n, light),
         Meaning::Refused(number) => {

@@ -39,7 +39,7 @@ pub(crate) fn light_at(texture: &[u8], width: usize, n: usize, x: usize, y: usiz
 }
 
 impl Sheet {
-    // Draws a record in the next place, or answers the number of its refusal: 7, 21, 6, 5 or 4.
+    // Draws a record in the next place, or answers the number of its refusal: 7, 21, 6, 5, 4 or 24.
     fn draw_next(
         self,
         samples: &mut [u8],
@@ -116,7 +116,7 @@ impl Sheet {
     }
 
     // Places a record: puts its predicted block in the next place and answers the next state, or refuses with 1, 2, 8, 23, 20, 3, 7, 21,
-    // 6, 5 or 4 and alters nothing.
+    // 6, 5, 4 or 24 and alters nothing.
     pub fn place(
         self,
         samples: &mut [u8],

@@ -54,7 +54,7 @@ front-within texture =
 
 rest-within : (A : Aids) (z : SizeFields) → blocksIn z ≤ mostBlocks → TakesAtMost (26 * mostBlocks + 1) (restLines A z)
 rest-within A z h =
-    lines-within {b = 26 * mostBlocks} (within-more (omega arith) (record-item (z .n) A (blocksIn z) (5 + z .values) .within tt)) _
+    lines-within {b = 26 * mostBlocks} (within-more (omega arith) (record-item (z .n) A (z .values) (blocksIn z) (5 + z .values) .within tt)) _
     (λ s u l _. ended-within _ l)
 
 file-within : (A : Aids) → TakesAtMost fileSpace (fileLines A)

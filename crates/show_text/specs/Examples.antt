@@ -13,7 +13,7 @@ use Rattle.depth_table.specs.Examples.{sampleTable}
 use Rattle.depth_table.specs.Table.{nearestTo, indexOf}
 use Rattle.wedgelet.specs.Wedgelet.{candidate, wedgelet, holds, keep, ends, starts, wedgeletList}
 use Rattle.prediction.specs.Sides.{vertEdge, horEdge, ltBy, brBy, lt, br, sideDepth}
-use Rattle.depth_table.specs.Offset.{offsetOk, levelOf}
+use Rattle.depth_table.specs.Offset.{offsetOk, offsetUsable, levelOf}
 use Rattle.prediction.specs.Block.{sampleOf, predicted}
 use Rattle.sheet_grid.specs.Neighbours.{firstPresent, substitutedBy, substituted, walked}
 use Rattle.sheet_grid.specs.Samples.{written}
@@ -37,7 +37,7 @@ sample-shown :
     ≡ bytesOf "width height\n4 4\ndepth\n100 100 100 100\n140 140 140 140\n140 140 140 140\n140 140 140 140\n"
 unfolding
     shownText sizeIn aidsFor wordList inWords patternsOf patternAt sidesTitle rowsText sidesText sheetText readFile readLengthsOk
-    fileLines sizeMeaning valueMeaning recordRefusal offsetOk exactly sizeTitle depthTitle recordTitle sizeLine valueLine
+    fileLines sizeMeaning valueMeaning recordRefusal offsetOk offsetUsable exactly sizeTitle depthTitle recordTitle sizeLine valueLine
     recordLine manyLines texts number signed moreDigits numberText numeral digitsOf furtherDigits bits clamped listOf nearestTo
     indexOf candidate wedgelet holds keep ends starts wedgeletList vertEdge horEdge ltBy brBy lt br sideDepth levelOf sampleOf
     predicted firstPresent substitutedBy substituted walked written placedSamples placedInTurn
@@ -59,7 +59,7 @@ refusals-shown :
     × (shownText (printed 4 4 0 74) ≡ refusalText 6 8)
 unfolding
     shownText sizeIn aidsFor wordList inWords patternsOf patternAt listOf readFile readLengthsOk fileLines sizeMeaning
-    valueMeaning recordRefusal offsetOk exactly sizeTitle depthTitle recordTitle sizeLine valueLine recordLine manyLines texts
+    valueMeaning recordRefusal offsetOk offsetUsable exactly sizeTitle depthTitle recordTitle sizeLine valueLine recordLine manyLines texts
     number signed moreDigits numberText numeral digitsOf furtherDigits bits candidate wedgelet holds keep ends starts wedgeletList
     fileText sizeText valueText recordText signedText signedNumeral
 refusals-shown = (refl, refl, refl, refl, refl, refl, refl)

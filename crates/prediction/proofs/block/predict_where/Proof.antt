@@ -33,12 +33,13 @@ start u = u .before .before .before .before
 abbrev number : tie.After-used-words → ℕ
 number u =
     let a = start u .args in
-    predictRefusalBy (a .asked) (a .n) (patternNumber (u .used-words .result)) (length (now (a .border))) (a .off0) (a .off1) (length (now (a .block)))
+    predictRefusalBy (a .asked) (a .n) (patternNumber (u .used-words .result)) (length (now (a .border))) (length (now (a .table))) (a .off0) (a .off1)
+    (length (now (a .block)))
 
 number-found : (c : tie.After-predict-refusal) → c .predict-refusal .result ≡ number (c .before)
 number-found c =
     let f = start (c .before) .fits in
-    offsets-read _ _ _ _ _ (toZ-ofZ w32 _ (f .off0)) (toZ-ofZ w32 _ (f .off1)) (c .predict-refusal .ensures)
+    offsets-read _ _ _ _ _ _ (toZ-ofZ w32 _ (f .off0)) (toZ-ofZ w32 _ (f .off1)) (c .predict-refusal .ensures)
 
 -- no check has failed
 none : (c : tie.Else1) → number (c .before .before) ≡ 0
@@ -46,7 +47,7 @@ none c = sym (number-found (c .before)) ∙ c .if1 .left
 
 -- then the values can be worked out
 able : (c : tie.Else1) → let a = start (c .before .before) .args in Predictable (a .n) (now (a .border)) (now (a .table)) (toZ w32 (ofZ w32 (a .off0))) (toZ w32 (ofZ w32 (a .off1)))
-able c = predictable _ (start (c .before .before) .pre) (predict-accepted _ _ _ _ _ _ _ (sym (c .before .predict-refusal .ensures) ∙ c .if1 .left))
+able c = predictable _ (start (c .before .before) .pre) (predict-accepted _ _ _ _ _ _ _ _ (sym (c .before .predict-refusal .ensures) ∙ c .if1 .left))
 
 value-of-requires : tie.Need-value-of-requires
 value-of-requires c κs =
@@ -79,7 +80,7 @@ returns-2 c =
     let s = now (a .border) in
     let t = now (a .table) in
     let m = mark .mark-at .result in
-    let p = predict-accepted _ _ _ _ _ _ _ (none branch) in
+    let p = predict-accepted _ _ _ _ _ _ _ _ (none branch) in
     let ea = own .value-of .ensures ∙ offsets-kept (a .n) q s t m (toZ-ofZ w32 _ (f .off0)) (toZ-ofZ w32 _ (f .off1)) in
     let eb = other .value-of2 .ensures ∙ offsets-kept (a .n) q s t (not m) (toZ-ofZ w32 _ (f .off0)) (toZ-ofZ w32 _ (f .off1)) in
     let e1 = marked-is (a .n) q s t (a .off0) (a .off1) m (first .pick .ensures) ea eb in

@@ -59,7 +59,8 @@ all c =
     let d = start2 c in
     let a = d .args in
     c .records-refusal .ensures
-    ∙ ap (firstTo (λ i. writtenRefusal (a .sheet .n) (lentList d) (a .count) (source d .record-at i))) (c .before .before .blocks2 .ensures)
+    ∙ ap (firstTo (λ i. writtenRefusal (a .sheet .n) (lentList d) (a .count) (length (a .table .now)) (source d .record-at i)))
+    (c .before .before .blocks2 .ensures)
     ∙ sym (write-next (source d) (lentList d) (a .count) (records d) (space d) (none (c .before .before .before)))
 
 good :
