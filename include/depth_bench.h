@@ -38,8 +38,9 @@ typedef struct { uint32_t refusal, marks; } depth_bench_prediction;
  * off0, off1: what is added to the table index of the unmarked and of the marked samples.
  * cost: the sum of absolute differences between the record's prediction and the original.
  * tried: how many offsets were tried in all. A side of a pattern is its unmarked or its marked samples. For each side of each wedgelet,
- *   and of the contour where a texture is lent, offsets are tried in the order 0, -1, 1, -2, 2 .. -reach, reach, up to the first that
- *   costs nothing on that side, which counts too, or all 2 * reach + 1 where none does; a side without samples takes one. */
+ *   and of the contour where a texture is lent, offsets are tried in the order 0, -1, 1, -2, 2 .. -r, r, r being the lesser of the reach and
+ *   table_len - 1, up to the first that costs nothing on that side, which counts too, or all 2 * r + 1 where none does; a side without
+ *   samples takes one. */
 typedef struct { uint32_t refusal, kind, entry; int32_t off0, off1; uint32_t cost, tried; } depth_bench_choice;
 
 /* The words of the pattern. At n = 4 it is the low 16 bits of word[0], at n = 8 all 64, and words 1 to 3 are 0; at n = 16 it is all four
@@ -56,19 +57,22 @@ typedef char depth_bench_pattern_words_at_8[offsetof(depth_bench_pattern, word) 
 /* Writes the n*n predicted samples of the pattern word0 .. word3 to `block`; below n = 16 the pattern is word0 alone.
  * border: the 4n neighbours, left samples L0 to L(2n-1), downward, then top samples T0 to T(2n-1), rightward.
  * table: 1 to 256 depth values, strictly rising. off0 is for unmarked samples, off1 for marked ones.
- *   1  n is none of 4, 8 and 16
- *   2  border is not 4n bytes long, or block not n*n
- *   3  the table has no value or more than 256, or its values do not rise strictly
- *   5  n = 4 and word0 has a bit from 16 up
- *   4  an offset is outside -255 .. 255 */
+ *   1   n is none of 4, 8 and 16
+ *   2   border is not 4n bytes long, or block not n*n
+ *   3   the table has no value or more than 256, or its values do not rise strictly
+ *   5   n = 4 and word0 has a bit from 16 up
+ *   4   an offset is outside -255 .. 255
+ *   24  the absolute value of an offset is not below table_len */
 depth_bench_prediction depth_bench_predict(size_t n, uint64_t word0, uint64_t word1, uint64_t word2, uint64_t word3,
     const uint8_t *border, size_t border_len, const uint8_t *table, size_t table_len, int32_t off0, int32_t off1, uint8_t *block,
     size_t block_len);
 
 /* The record of least cost for the block `original`, out of all wedgelets of the list for n, the contour of `texture` where one is lent
- * (a texture of length 0 is none), and all offsets in -reach .. reach. Of records of equal cost the one that comes first is chosen:
- * wedgelets before the contour, a lower entry before a higher one; then by off0, then by off1, the one nearer to 0 first, and of two
- * equally near the negative one.
+ * (a texture of length 0 is none), and all offsets in -reach .. reach. Of these only -r .. r are tried, r being the lesser of the reach
+ * and table_len - 1: one further out predicts what one nearer to 0 does, and depth_bench_predict refuses it. So the record is one that
+ * depth_bench_predict takes with the same table. A reach at or above table_len is no refusal.
+ * Of records of equal cost the one that comes first is chosen: wedgelets before the contour, a lower entry before a higher one; then by
+ * off0, then by off1, the one nearer to 0 first, and of two equally near the negative one.
  *   1  n is none of 4, 8 and 16
  *   2  border is not 4n bytes long, original not n*n, or texture neither 0 nor n*n
  *   3  the table has no value or more than 256, or its values do not rise strictly

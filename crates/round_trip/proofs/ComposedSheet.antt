@@ -34,7 +34,7 @@ use Rattle.record_file.proofs.MeaningLaws.{written-sound, record-small}
 use Rattle.record_file.proofs.RefusalLaws.{parts-accepted}
 use Rattle.record_read.proofs.RestLaws.{in-turn-ext}
 use Rattle.record_read.specs.Back.{Lent}
-use Rattle.round_trip.specs.Law.{TextureFits, emptied, composing, samplesComposed, recordsComposed, ComposedFrom}
+use Rattle.round_trip.specs.Law.{TextureFits, emptied, composing, samplesComposed, recordsComposed, AcceptedInTurn, ComposedFrom}
 use Rattle.round_trip.proofs.LengthLaws.{small-lendable}
 
 -- what `place` accepts, no check of it refuses
@@ -100,6 +100,21 @@ module _ (S : Sheet) (T : Task) (C : Lent) where
         ap recordIn (fields-at i h)
         ∙ record-back r
         (small-lendable r (record-small (S .n) (M .list) (M .count) (textured (M .texture)) (length (M .table)) r (ready .lengths .few) (record-right i h)))
+
+    -- each is accepted on its turn, in placing and in writing
+    pub record-accepted : (i : ℕ) → i < missing S → AcceptedInTurn S (T .material) (recordAt (recordsComposed S T C)) (C .samples) i
+    record-accepted i h =
+        let M = T .material in
+        let at : ℕ → Record = recordAt (recordsComposed S T C) in
+        let made : ℕ → Record = composedRecord S T (C .samples) in
+        let s : placedInTurn S M at (C .samples) i ≡ composedTo S T (C .samples) i =
+        in-turn-ext S M at made (C .samples) i (λ j l. record-left j (omega arith)) ∙ sym (whole .in-turn i) in
+        record {
+          placed = rw (s, record-left i h) (whole .accepted i h);
+          writable =
+              rw (record-left i h)
+              (written-sound (S .n) (M .list) (M .count) (textured (M .texture)) (length (M .table)) (made i) (record-right i h));
+        }
 
     -- and there is a place for each
     pub composed-room : missing S ≤ length (recordsComposed S T C)

@@ -39,7 +39,7 @@ use Rattle.round_trip.specs.Law.{TextureFits, Enough, emptied, materialB
 use Rattle.round_trip.specs.Law.{samplesComposed, recordsComposed, taskBy, WrittenAndRead, ComposedReadsBack, ComposedFrom}
 use Rattle.round_trip.specs.Law.{ContinuedReadsBack, RoundTrips}
 use Rattle.round_trip.proofs.LengthLaws.{text-fits, small-lendable}
-use Rattle.round_trip.proofs.ComposedSheet.{composed-means, ready, composed-room, each-accepted, composed-drawn, lengths, accepted-writes, accepted-fits}
+use Rattle.round_trip.proofs.ComposedSheet.{composed-means, ready, record-accepted, composed-room, each-accepted, composed-drawn, lengths, accepted-writes, accepted-fits}
 
 -- ---- what is written
 
@@ -272,4 +272,5 @@ round-trips =
       read-writes-back = read-writes;
       composed-reads-back = composed;
       continued-reads-back = continued;
+      composed-accepted = λ S F T C k answer. record-accepted S T C (composed-means S T C answer .0);
     }

@@ -1,6 +1,6 @@
 -- Document 01, "House file": what can be written reads back the same, a file that is accepted is the one the writer makes of what was read,
--- and a composed sheet that is written and read is the composed sheet again. All are said of what the calls `write`, `read`, `place` and
--- `compose` answer and leave, as their contracts have it.
+-- a composed sheet that is written and read is the composed sheet again, and composing makes no record that is refused. All are said of
+-- what the calls `write`, `read`, `place` and `compose` answer and leave, as their contracts have it.
 use Prim.Native.Nat.{ℕ, _+_, _≤_, _<_}
 use mathlib.Core.Path.{_≡_}
 use mathlib.Core.Bool.{true}
@@ -20,7 +20,7 @@ use Rattle.sheet_grid.specs.Grid.{mostSamples, mostBlocks}
 use Rattle.depth_table.specs.Table.{mostValues}
 use Rattle.record.specs.Lent.{recordAt}
 use Rattle.record_file.specs.Reading.{Aids, listsOk}
-use Rattle.record_file.specs.Writing.{Source, sourceOf, spaceFor, writeAnswer, writeAfter}
+use Rattle.record_file.specs.Writing.{Source, sourceOf, spaceFor, writtenRefusal, writeAnswer, writeAfter}
 use Rattle.record_read.specs.declared.reading.FileBack.{FileBack}
 use Rattle.record_read.specs.Back.{materialFor, drawnOn, fileBack, samplesBack, recordsOver, recordsBack, leaving, Lent, reading}
 
@@ -117,6 +117,18 @@ samplesComposed S T C = composeAfter S (C .samples) T (length (C .records))
 abbrev pub recordsComposed : Sheet → Task → Lent → List (List ℤ)
 recordsComposed S T C = composeRecords S (C .samples) T (C .records)
 
+-- a record on its turn, where s stood on the sheet before: `place` accepts it, and nothing that `write` checks of it fails
+pub record AcceptedInTurn (S : Sheet) (M : Material) (at : ℕ → Record) (s : List ℕ) (i : ℕ) : Type 0 where
+  pub placed : placeAnswer (after i S) (placedInTurn S M at s i) M (at i) ≡ given (after (i + 1) S)
+  pub writable : writtenRefusal (S .n) (M .list) (M .count) (length (M .table)) (at i) ≡ 0
+
+-- Composing makes no record that is refused: where `compose` answers, each record that it leaves is accepted on its turn, by its checks
+-- in placing and in writing, with the table that it was composed with.
+abbrev pub ComposedAccepted : Type 0
+ComposedAccepted =
+    (S F : Sheet) (T : Task) (C : Lent) (k : ℕ) → composing S T C ≡ given (F, k)
+    → (i : ℕ) → i < missing S → AcceptedInTurn S (T .material) (recordAt (recordsComposed S T C)) (C .samples) i
+
 -- composing a sheet of size n with the list, count and texture of A
 abbrev pub taskBy : Aids → ℕ → List ℕ → List ℕ → ℕ → Task
 taskBy A n table original reach = taskOf (materialFor A n table) original reach
@@ -168,3 +180,4 @@ pub record RoundTrips : Type 0 where
   pub read-writes-back : ReadWritesBack
   pub composed-reads-back : ComposedReadsBack
   pub continued-reads-back : ContinuedReadsBack
+  pub composed-accepted : ComposedAccepted
