@@ -1,9 +1,9 @@
-//! Choice: the record of least cost, and the number of offsets tried for it (document 02, Ask 3).
+//! Choice: the record of least cost, and the number of offsets tried for it (document 02, Asks 3 and 4).
 
 use crate::block::{mark, pattern_at, patterns_of, size_allowed, words_of, Pattern};
 use crate::edges::edge_words;
 use crate::outline::outline;
-use crate::predict::{depths_by_mark, predicted, value_at};
+use crate::predict::{depths_by_mark, offset_usable, predicted, value_at};
 use crate::sides::pattern_allowed;
 use crate::table::{nearest_index, sound};
 use crate::{EMPTY_CHOICE, ENTRY, KIND, LENGTH, NO_TEXTURE, OFFSET, SIZE, TABLE, WORD};
@@ -96,6 +96,16 @@ pub fn offsets(reach: u32) -> Vec<i32> {
     all
 }
 
+/// The reach in use: "the smaller of R and table count − 1".
+fn reach_in_use(request: &Request) -> u32 {
+    request.reach.min(request.table.len() as u32 - 1)
+}
+
+/// "A choice tries only offsets that would pass": of those in −R .. R the ones that the table can use, in the same order.
+fn passing_offsets(request: &Request) -> Vec<i32> {
+    offsets(request.reach).into_iter().filter(|&offset| offset_usable(request.table, offset)).collect()
+}
+
 /// "The sum of absolute differences between prediction and original."
 pub fn cost(prediction: &[u8], original: &[u8]) -> u32 {
     prediction.iter().zip(original).map(|(&p, &o)| p.abs_diff(o) as u32).sum()
@@ -115,28 +125,26 @@ fn place(offset: i32) -> u32 {
 }
 
 /// The number of offsets tried for each side of each pattern, summed: the place of the first that "gives cost 0 for that side", or all
-/// 2R + 1 where none does.
+/// that would pass where none does.
 fn tried_by_place(request: &Request) -> u32 {
-    let reach = request.reach as i32;
+    let all = passing_offsets(request);
     let mut tried = 0;
     for (_, _, pattern) in patterns(request) {
         for marked in [false, true] {
-            let free = (-reach..=reach).filter(|&offset| side_cost(request, &pattern, marked, offset) == 0);
-            tried += free.map(place).min().unwrap_or(2 * request.reach + 1);
+            let free = all.iter().filter(|&&offset| side_cost(request, &pattern, marked, offset) == 0);
+            tried += free.map(|&offset| place(offset)).min().unwrap_or(all.len() as u32);
         }
     }
     tried
 }
 
-/// The choice by trying every record in the order of the tie rule; a later one needs a lesser cost.
-/// Refusals: 1, 2, 3, 5, 4, 10.
-pub fn choose_by_trial(request: &Request) -> Result<Choice, u32> {
-    check(request)?;
+/// The record of least cost of all with these offsets, in the order of the tie rule, and its cost; a later one needs a lesser cost.
+fn best_by_trial(request: &Request, offsets: &[i32]) -> (Record, u32) {
     let Request { n, border, table, .. } = *request;
     let mut best: Option<(Record, u32)> = None;
     for (kind, entry, pattern) in patterns(request) {
-        for off0 in offsets(request.reach) {
-            for off1 in offsets(request.reach) {
+        for &off0 in offsets {
+            for &off1 in offsets {
                 let prediction = predicted(n, &pattern, border, table, off0, off1);
                 let cost = cost(&prediction, request.original);
                 if best.is_none_or(|(_, least)| cost < least) {
@@ -145,7 +153,13 @@ pub fn choose_by_trial(request: &Request) -> Result<Choice, u32> {
             }
         }
     }
-    let (record, cost) = best.unwrap();
+    best.unwrap()
+}
+
+/// The choice by trying every record whose offsets would pass. Refusals: 1, 2, 3, 5, 4, 10.
+pub fn choose_by_trial(request: &Request) -> Result<Choice, u32> {
+    check(request)?;
+    let (record, cost) = best_by_trial(request, &passing_offsets(request));
     Ok(Choice { record, cost, tried: tried_by_place(request) })
 }
 
@@ -174,7 +188,7 @@ fn try_offsets(request: &Request, samples: &[u8], depth: u8) -> Trial {
     let index = nearest_index(request.table, depth) as i32;
     let mut costs: [Option<u32>; 256] = [None; 256];
     let mut best = Trial { offset: 0, cost: u32::MAX, tried: 0 };
-    for offset in offsets(request.reach) {
+    for offset in offsets(reach_in_use(request)) {
         let value = value_at(request.table, index + offset);
         let cost = *costs[value as usize].get_or_insert_with(|| value_cost(value));
         best.tried += 1;

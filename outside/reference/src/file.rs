@@ -58,7 +58,7 @@ fn text(sheet: &Sheet, table: &[u8], records: &[Record]) -> String {
 }
 
 /// Writes the file into the lent bytes and answers its length; bytes past it keep their content. The list is that for the
-/// sheet's n. Refusals: 1, 2, 8, 23, 22, 3, then record by record 7, 6, 5, 4.
+/// sheet's n. Refusals: 1, 2, 8, 23, 22, 3, then record by record 7, 6, 5, 4, 24.
 pub fn write(
     sheet: &Sheet,
     list: &[u64],
@@ -82,8 +82,9 @@ pub fn write(
         return Err(TABLE);
     }
     let records = &records[..blocks as usize];
+    let lent = Lent { list, count, table, texture: &[] };
     for record in records {
-        check_record(sheet.n, list, count, record, true)?;
+        check_record(sheet.n, &lent, record, true)?;
     }
     let text = text(sheet, table, records);
     bytes[..text.len()].copy_from_slice(text.as_bytes());
@@ -189,7 +190,7 @@ struct Contents {
     samples: Vec<u8>,
 }
 
-/// Reads the whole file into contents of its own. Each record's line is judged by 9, 7, 21, 6, 5, 4.
+/// Reads the whole file into contents of its own. Each record's line is judged by 9, 7, 21, 6, 5, 4, 24.
 fn read_contents(bytes: &[u8], lists: &Lists, texture: &[u8]) -> Result<Contents, Refused> {
     let mut lines = Lines { rest: bytes, line: 0 };
     let (mut sheet, values) = read_sizes(&mut lines, texture)?;

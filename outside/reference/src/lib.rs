@@ -1,6 +1,6 @@
 //! An independent implementation of document 01 with the changes that landed (blocks of 16; the outline's threshold from the corners;
-//! the offset trial that ends sooner), in its order and words, by the plainest method.
-//! A function that returns a `Result` is a public call: its error is document 01's refusal number,
+//! the offset trial that ends sooner; offsets that a table can't use), in its order and words, by the plainest method.
+//! A function that returns a `Result` is a public call: its error is the refusal number of documents 01 and 02,
 //! and a refused call leaves every lent buffer as it was.
 
 pub mod block;
@@ -42,3 +42,5 @@ pub const NO_TEXTURE: u32 = 21;
 pub const MISSING: u32 = 22;
 /// Refusal 23: a state with more blocks placed than the sheet has.
 pub const PLACED: u32 = 23;
+/// Refusal 24: an offset whose absolute value is not below the table count.
+pub const OFFSET_UNUSABLE: u32 = 24;

@@ -3,10 +3,10 @@
 use crate::block::{pattern_at, size_allowed};
 use crate::choice::{check_search, choose, count_allowed, Record, Request};
 use crate::outline::outline;
-use crate::predict::{offset_allowed, predicted};
+use crate::predict::{check_offsets, predicted};
 use crate::sides::pattern_allowed;
 use crate::table::sound;
-use crate::{ALL_PLACED, ENTRY, KIND, LENGTH, MEASURES, NO_TEXTURE, OFFSET, PLACED, SIZE, TABLE, WORD};
+use crate::{ALL_PLACED, ENTRY, KIND, LENGTH, MEASURES, NO_TEXTURE, PLACED, SIZE, TABLE, WORD};
 
 /// "The state is n, width, height and the number of blocks placed."
 #[derive(Clone, Copy, Debug, PartialEq, Eq)]
@@ -162,10 +162,10 @@ impl Sheet {
     }
 
     /// Places a record as the next block and hands the next state back.
-    /// Refusals: 1, 2, 8, 23, 20, 3, 7, 21, 6, 5, 4.
+    /// Refusals: 1, 2, 8, 23, 20, 3, 7, 21, 6, 5, 4, 24.
     pub fn place(self, samples: &mut [u8], lent: &Lent, record: &Record) -> Result<Sheet, u32> {
         self.check_open(|| self.lent_fits(samples.len(), lent), lent.table)?;
-        check_record(self.n, lent.list, lent.count, record, !lent.texture.is_empty())?;
+        check_record(self.n, lent, record, !lent.texture.is_empty())?;
         Ok(self.put(samples, lent, record))
     }
 
@@ -209,14 +209,8 @@ impl Sheet {
     }
 }
 
-/// A record's own checks; the list and its count are already judged. Refusals: 7, 21, 6, 5, 4.
-pub fn check_record(
-    n: u32,
-    list: &[u64],
-    count: usize,
-    record: &Record,
-    outline_possible: bool,
-) -> Result<(), u32> {
+/// A record's own checks; the table, the list and its count are already judged. Refusals: 7, 21, 6, 5, 4, 24.
+pub fn check_record(n: u32, lent: &Lent, record: &Record, outline_possible: bool) -> Result<(), u32> {
     match (record.kind, record.entry) {
         (0, _) | (1, 0) => {}
         _ => return Err(KIND),
@@ -225,18 +219,15 @@ pub fn check_record(
         return Err(NO_TEXTURE);
     }
     if record.kind == 0 {
-        if record.entry as usize >= count {
+        if record.entry as usize >= lent.count {
             return Err(ENTRY);
         }
         let n = n as usize;
-        if !pattern_allowed(n, &pattern_at(n, list, record.entry as usize)) {
+        if !pattern_allowed(n, &pattern_at(n, lent.list, record.entry as usize)) {
             return Err(WORD);
         }
     }
-    if !offset_allowed(record.off0) || !offset_allowed(record.off1) {
-        return Err(OFFSET);
-    }
-    Ok(())
+    check_offsets(lent.table, [record.off0, record.off1])
 }
 
 #[cfg(test)]

@@ -177,15 +177,16 @@ fn each_side_has_its_own_trial() {
 
 #[test]
 fn a_side_without_samples_takes_one_offset() {
+    let table: Vec<u8> = (10..=255).collect();
     for n in [4, 8, 16] {
         let words = list_words(n, &[[0; 4], all_marked(n)]);
         let (border, original) = (vec![128; 4 * n], vec![9; n * n]);
-        for reach in [0, 1, 17, 255] {
-            let request =
-                Request { n, list: &words, border: &border, original: &original, reach, ..flat_request(&[]) };
+        for (reach, used) in [(0, 0), (1, 1), (17, 17), (245, 245), (255, 245)] {
+            let request = Request { n, list: &words, border: &border, reach, ..flat_request(&[]) };
+            let request = Request { original: &original, table: &table, ..request };
             for count in 1..=2 {
                 let choice = choose(&Request { count, ..request }).unwrap();
-                assert_eq!(choice.tried, count as u32 * (2 * reach + 1 + 1));
+                assert_eq!(choice.tried, count as u32 * (2 * used + 1 + 1));
                 assert_eq!(choice.tried, tried_by_place(&Request { count, ..request }));
             }
         }
@@ -206,13 +207,112 @@ fn the_ends_of_the_reach() {
 
 #[test]
 fn offsets_that_are_held_to_one_index_count_singly() {
-    for reach in [0, 1, 9, 255] {
-        assert_eq!(tried(&[0xFFF0], 3, &[128], &[128; 16], reach), 2);
-        assert_eq!(tried(&[0xFFF0], 3, &[128], &[127; 16], reach), 2 * (2 * reach + 1));
-    }
     assert_eq!(tried(&[0xFFF0], 255, &[100, 128, 140], &[100; 16], 255), 2 * 4);
     assert_eq!(tried(&[0xFFF0], 0, &[100, 128, 140], &[140; 16], 255), 2 * 5);
-    assert_eq!(tried(&[0xFFF0], 0, &[100, 128, 140], &[139; 16], 255), 2 * 511);
+    assert_eq!(tried(&[0xFFF0], 0, &[100, 128, 140], &[139; 16], 255), 2 * 5);
+    let table: Vec<u8> = (100..=140).collect();
+    for border in [0, 120, 255] {
+        for reach in [0, 1, 20, 39, 40] {
+            assert_eq!(tried(&[0xFFF0], border, &table, &[99; 16], reach), 2 * (2 * reach + 1));
+        }
+    }
+}
+
+#[test]
+fn only_offsets_that_the_table_can_use_are_tried() {
+    let (pair, three, full) = ([100, 140], [100, 128, 140], spread_table(256));
+    for border in [0, 128, 255] {
+        for reach in [0, 1, 2, 255] {
+            assert_eq!(tried(&[0xFFF0], border, &[128], &[128; 16], reach), 2);
+            assert_eq!(tried(&[0xFFF0], border, &[128], &[127; 16], reach), 2);
+        }
+        for (reach, used) in [(0, 0), (1, 1), (2, 1), (255, 1)] {
+            assert_eq!(tried(&[0xFFF0], border, &pair, &[99; 16], reach), 2 * (2 * used + 1));
+        }
+        for (reach, used) in [(0, 0), (1, 1), (2, 2), (3, 2), (255, 2)] {
+            assert_eq!(tried(&[0xFFF0], border, &three, &[99; 16], reach), 2 * (2 * used + 1));
+        }
+    }
+    for reach in [253, 254, 255] {
+        let checks = block_of(0x5A5A, 127, 128);
+        assert_eq!(tried(&[0xFFF0], 128, &full, &checks, reach), 2 * (2 * reach + 1));
+    }
+}
+
+#[test]
+fn a_trial_can_end_at_the_farthest_offset_in_use() {
+    for count in [2, 3, 7] {
+        let (table, most) = (spread_table(count), count as u32 - 1);
+        for reach in [most, most + 1, 255] {
+            assert_eq!(tried(&[0xFFF0], 255, &table, &[0; 16], reach), 2 * 2 * most);
+            assert_eq!(tried(&[0xFFF0], 0, &table, &[255; 16], reach), 2 * (2 * most + 1));
+        }
+        assert_eq!(tried(&[0xFFF0], 255, &table, &[0; 16], most - 1), 2 * (2 * most - 1));
+    }
+}
+
+/// "The least cost can't change by that": the record of least cost over all offsets in −R .. R, by trying each, is the chosen one,
+/// which has only offsets that the table can use.
+fn same_over_the_reach_as_given(request: &Request) {
+    let (record, cost) = best_by_trial(request, &offsets(request.reach));
+    let chosen = both(request);
+    assert_eq!((chosen.record, chosen.cost), (record, cost));
+    assert!([record.off0, record.off1].iter().all(|&offset| offset_usable(request.table, offset)));
+    assert_eq!(choose(&Request { reach: reach_in_use(request), ..*request }), Ok(chosen));
+}
+
+#[test]
+fn the_reach_as_given_has_the_same_record_and_cost_on_pseudo_random_blocks() {
+    for seed in 500..596 {
+        let n = [4, 8, 4, 4, 16][seed as usize % 5];
+        let mut random = Random(seed);
+        let (border, original, texture) = (random.bytes(4 * n), random.bytes(n * n), random.bytes(n * n));
+        let table = spread_table([1, 2, 3, 4, 7, 12][seed as usize % 6]);
+        same_over_the_reach_as_given(&Request {
+            n,
+            list: edge_words(n),
+            count: if n == 4 { 74 } else { 12 },
+            border: &border,
+            original: &original,
+            table: &table,
+            reach: table.len() as u32 + [0, 1, 5][seed as usize / 6 % 3],
+            texture: if seed % 2 == 0 { &texture } else { &[] },
+        });
+    }
+}
+
+#[test]
+fn the_reach_as_given_has_the_same_record_and_cost_where_many_records_tie() {
+    for seed in 600..660 {
+        let mut random = Random(seed);
+        let ends = |random: &mut Random, length: usize| -> Vec<u8> {
+            random.bytes(length).iter().map(|byte| [0, 255, 128, 255][*byte as usize % 4]).collect()
+        };
+        let (border, original) = (ends(&mut random, 16), ends(&mut random, 16));
+        let words = [0, 0xFFFF, 0xFFF0, 0xEEEE, 0x8000];
+        same_over_the_reach_as_given(&Request {
+            border: &border,
+            original: if seed % 3 == 0 { &[255; 16] } else { &original },
+            table: &spread_table([1, 2, 3, 5][seed as usize % 4]),
+            reach: [2, 6, 17][seed as usize / 4 % 3],
+            ..flat_request(&words)
+        });
+    }
+}
+
+#[test]
+fn the_greatest_reach_has_the_same_record_and_cost() {
+    for (seed, count) in [(700, 1), (701, 2), (702, 3), (703, 9), (704, 40), (705, 255), (706, 256)] {
+        let mut random = Random(seed);
+        let (border, original) = (random.bytes(16), random.bytes(16));
+        same_over_the_reach_as_given(&Request {
+            border: &border,
+            original: &original,
+            table: &spread_table(count),
+            reach: 255,
+            ..flat_request(&[0x8CEF, 0x0001])
+        });
+    }
 }
 
 #[test]
@@ -310,7 +410,12 @@ fn refusals_in_order() {
     request.reach = 255;
     assert_eq!(refused(&request), 10);
     request.count = 1;
-    assert!(choose(&request).is_ok());
+    assert_eq!(choose(&request).map(|choice| choice.tried), Ok(2));
+    for table in [&[7][..], &[7, 8], &[7, 8, 9]] {
+        assert!(choose(&Request { table, reach: 255, ..request }).is_ok());
+        assert_eq!(refused(&Request { table, reach: 256, ..request }), 4);
+        assert_eq!(refused(&Request { table, reach: u32::MAX, ..request }), 4);
+    }
     assert!(choose(&Request { list: &long, count: 9999, reach: 0, ..request }).is_ok());
 }
 

@@ -158,6 +158,94 @@ fn refusals_of_values_and_records() {
 }
 
 #[test]
+fn refusal_24_at_a_records_line() {
+    for (record, number) in [
+        ("0 0 3 0", 24),
+        ("0 0 -3 0", 24),
+        ("0 0 0 3", 24),
+        ("0 0 0 -3", 24),
+        ("0 0 255 -255", 24),
+        ("0 0 200 1", 24),
+        ("0 0 3 256", 4),
+        ("0 0 300 -3", 4),
+        ("0 74 3 0", 6),
+        ("1 0 3 0", 21),
+        ("1 1 3 0", 7),
+        ("2 0 3 0", 7),
+        ("2 0 3 00", 9),
+    ] {
+        assert_eq!(refused("0 0 -1 1\n", &format!("{record}\n")), (number, 8), "{record}");
+    }
+    for record in ["0 0 2 -2", "0 0 -2 2", "0 0 0 0"] {
+        assert!(read_built(&SAMPLE.replace("0 0 -1 1", record), &[]).is_ok());
+    }
+    let textured = SAMPLE.replace("0 0 -1 1", "1 0 1 -3");
+    assert_eq!(read_built(&textured, &[9; 16]).unwrap_err(), (24, 8));
+    let words = [0xFFF0, 0x10000];
+    let lists = [Listed { list: &words, count: 2 }, built_lists()[1], built_lists()[2]];
+    for (record, number) in [("0 1 3 0", 5), ("0 0 3 0", 24)] {
+        let (mut samples, mut records) = (vec![7; SAMPLES_LENT], vec![UNREAD; RECORDS_LENT]);
+        let text = SAMPLE.replace("0 0 -1 1", record);
+        let answer = read(text.as_bytes(), &lists, &[], &mut samples, &mut records);
+        assert_eq!(answer, Err(Refused { number, line: 8 }));
+        assert!(samples.iter().all(|&sample| sample == 7) && records.iter().all(|r| *r == UNREAD));
+    }
+}
+
+#[test]
+fn the_offsets_of_each_record_are_set_against_the_files_table() {
+    let two = |table: &str, records: &str| {
+        let values = table.lines().count();
+        let text = format!("4 8 4 {values}\ndepth\n{table}kind entry off0 off1\n{records}");
+        read_built(&("size width height values\n".to_string() + &text), &[]).map(|_| ()).unwrap_err()
+    };
+    assert_eq!(two("7\n", "0 0 0 0\n0 0 0 1\n"), (24, 7));
+    assert_eq!(two("7\n", "0 0 -1 0\n2 0 0 0\n"), (24, 6));
+    assert_eq!(two("7\n", "2 0 0 0\n0 0 -1 0\n"), (7, 6));
+    assert_eq!(two("7\n8\n", "0 0 1 -1\n0 0 -2 0\n"), (24, 8));
+    assert_eq!(two("7\n8\n", "0 0 0 2\n"), (24, 7));
+    assert_eq!(two("7\n8\n9\n", "0 0 2 -2\n"), (9, 9));
+    let full: String = (0..256).map(|value| format!("{value}\n")).collect();
+    assert_eq!(two(&full, "0 0 255 -255\n0 0 256 0\n"), (4, 262));
+}
+
+#[test]
+fn refusal_24_in_writing() {
+    let (list, sheet) = ([0xFFF0, 0x10000], Sheet { n: 4, width: 8, height: 4, placed: 2 });
+    let edge = |entry: u32, off0: i32, off1: i32| Record { kind: 0, entry, off0, off1 };
+    let outline = |entry: u32| Record { kind: 1, entry, off0: 0, off1: 3 };
+    let mut bytes = vec![7; 200];
+    let mut written = |table: &[u8], first: Record, second: Record| {
+        let answer = write(&sheet, &list, 2, table, &[first, second], &mut bytes).map(|_| ());
+        assert!(answer.is_ok() || bytes.iter().all(|&byte| byte == 7));
+        bytes.fill(7);
+        answer
+    };
+    let (three, sound) = ([100, 128, 140], edge(0, 2, -2));
+    for (record, number) in [
+        (edge(0, 3, 0), 24),
+        (edge(0, -3, 0), 24),
+        (edge(0, 0, 255), 24),
+        (outline(0), 24),
+        (edge(0, 3, 300), 4),
+        (edge(0, i32::MIN, 3), 4),
+        (edge(1, 3, 0), 5),
+        (edge(2, 3, 0), 6),
+        (outline(1), 7),
+        (Record { kind: 2, ..outline(0) }, 7),
+    ] {
+        assert_eq!(written(&three, sound, record), Err(number));
+        assert_eq!(written(&three, record, Record { kind: 3, ..sound }), Err(number));
+        assert_eq!(written(&[7, 7], record, record), Err(3));
+    }
+    assert_eq!(written(&three, sound, sound), Ok(()));
+    assert_eq!(written(&[100, 128], sound, sound), Err(24));
+    assert_eq!(written(&[100], edge(0, 0, 0), edge(0, 0, 1)), Err(24));
+    assert_eq!(written(&[100], edge(0, 0, 0), edge(0, 0, 0)), Ok(()));
+    assert_eq!(written(&[1, 2, 3, 4], outline(0), edge(0, -3, 3)), Ok(()));
+}
+
+#[test]
 fn the_first_bad_line_counts() {
     let text = SAMPLE.replace("128\n", "1 28\n").replace("4 4 4 3", "4 5 4 3");
     assert_eq!(read_built(&text, &[]).unwrap_err(), (8, 2));
@@ -269,21 +357,24 @@ fn refusals_of_writing_in_order_and_the_bytes_untouched() {
 #[test]
 fn written_files_read_back() {
     let cases = [
-        (4, 3, 2, 1, true),
-        (8, 2, 3, 2, true),
-        (4, 32, 32, 3, false),
-        (16, 2, 2, 4, true),
-        (16, 8, 1, 5, false),
+        (4, 3, 2, 1, true, 5, 9),
+        (8, 2, 3, 2, true, 5, 9),
+        (4, 32, 32, 3, false, 5, 9),
+        (16, 2, 2, 4, true, 5, 9),
+        (16, 8, 1, 5, false, 5, 9),
+        (4, 2, 3, 6, true, 100, 255),
+        (8, 2, 2, 7, false, 200, 255),
+        (4, 3, 1, 8, true, 256, 1),
     ];
-    for (n, wide, high, seed, textured) in cases {
+    for (n, wide, high, seed, textured, step, reach) in cases {
         let (list, count, mut random) = (edge_words(n), edge_words(n).len() / words_of(n), Random(seed));
         let area = n * n * wide * high;
-        let table: Vec<u8> = (0..=255).step_by(5).collect();
+        let table: Vec<u8> = (0..=255).step_by(step).collect();
         let (original, texture) = (random.bytes(area), random.bytes(if textured { area } else { 0 }));
         let lent = Lent { list, count, table: &table, texture: &texture };
         let (mut samples, mut records) = (vec![0; area], vec![UNREAD; wide * high]);
         let empty = Sheet::new(n as u32, (n * wide) as u32, (n * high) as u32).unwrap();
-        let aim = Aim { original: &original, reach: 9 };
+        let aim = Aim { original: &original, reach };
         let (sheet, _) = empty.compose(&mut samples, &lent, &aim, &mut records).unwrap();
         let mut bytes = vec![0; 80 + 4 * table.len() + 32 * records.len()];
         let length = write(&sheet, list, count, &table, &records, &mut bytes).unwrap();

@@ -150,15 +150,78 @@ fn refusals_of_placing_in_order_and_the_samples_untouched() {
     assert_eq!(samples, [7; 96]);
 }
 
+/// What placing a record on a sheet of one block answers, with three values, a second entry that is too long, and texture or none.
+/// Refused, it leaves the samples.
+fn answer_to(record: &Record, textured: bool) -> Result<(), u32> {
+    let (list, texture, mut samples) = ([0xFFF0, 0x10000], [0; 16], [7; 16]);
+    let texture = if textured { &texture[..] } else { &[] };
+    let lent = Lent { list: &list, count: 2, table: &TABLE_3, texture };
+    let answer = state(4, 4, 4, 0).place(&mut samples, &lent, record).map(|_| ());
+    assert!(answer.is_ok() || samples == [7; 16]);
+    answer
+}
+
+#[test]
+fn an_offset_that_the_table_cannot_use_is_not_placed() {
+    for sign in [-1, 1] {
+        for (offset, answer) in [(2, Ok(())), (3, Err(24)), (255, Err(24)), (256, Err(4))] {
+            assert_eq!(answer_to(&edge(0, sign * offset, 0), false), answer);
+            assert_eq!(answer_to(&edge(0, 0, sign * offset), false), answer);
+            let outline = Record { kind: 1, entry: 0, off0: 1, off1: sign * offset };
+            assert_eq!(answer_to(&outline, true), answer);
+        }
+    }
+}
+
+#[test]
+fn in_placing_24_comes_after_each_other_check_of_the_record() {
+    let outline = |entry: u32| Record { kind: 1, entry, off0: 3, off1: 0 };
+    assert_eq!(answer_to(&Record { kind: 2, ..outline(0) }, true), Err(7));
+    assert_eq!(answer_to(&outline(1), true), Err(7));
+    assert_eq!(answer_to(&outline(0), false), Err(21));
+    assert_eq!(answer_to(&edge(2, 0, -3), false), Err(6));
+    assert_eq!(answer_to(&edge(1, 3, 0), false), Err(5));
+    assert_eq!(answer_to(&edge(0, 3, 300), false), Err(4));
+    assert_eq!(answer_to(&edge(0, -256, 3), false), Err(4));
+    assert_eq!(answer_to(&edge(0, 3, -3), false), Err(24));
+}
+
+#[test]
+fn in_placing_24_comes_after_the_checks_of_the_call() {
+    let (list, mut samples) = ([0xFFF0, 0x10000], vec![7; 32]);
+    let four = Lent { list: &list, count: 2, table: &[1, 2, 3, 4], texture: &[] };
+    let falling = Lent { table: &[2, 1], ..four };
+    let mut placed = |sheet: Sheet, length: usize, lent: &Lent, offset: i32| {
+        sheet.place(&mut samples[..length], lent, &edge(0, offset, 0)).map(|next| next.placed)
+    };
+    assert_eq!(placed(state(5, 6, 4, 3), 23, &falling, 4), Err(1));
+    assert_eq!(placed(state(4, 6, 4, 3), 23, &falling, 4), Err(2));
+    assert_eq!(placed(state(4, 6, 4, 3), 24, &falling, 4), Err(8));
+    assert_eq!(placed(state(4, 8, 4, 3), 32, &falling, 4), Err(23));
+    assert_eq!(placed(state(4, 8, 4, 2), 32, &falling, 4), Err(20));
+    assert_eq!(placed(state(4, 8, 4, 1), 32, &falling, 4), Err(3));
+    assert_eq!(placed(state(4, 8, 4, 1), 32, &four, 4), Err(24));
+    assert_eq!(placed(state(4, 8, 4, 1), 32, &four, 3), Ok(2));
+}
+
 #[test]
 fn composing_is_choosing_and_placing_in_turn() {
-    let cases = [(4, 1, true), (8, 2, false), (4, 3, false), (8, 4, true), (16, 5, true), (16, 6, false)];
-    for (n, seed, textured) in cases {
-        let (list, table, mut random) = (edge_words(n), full_table(), Random(seed));
+    let cases = [
+        (4, 1, true, 256, 20),
+        (8, 2, false, 256, 20),
+        (4, 3, false, 3, 255),
+        (8, 4, true, 2, 255),
+        (4, 7, true, 1, 1),
+        (16, 5, true, 256, 20),
+        (16, 6, false, 3, 3),
+    ];
+    for (n, seed, textured, values, reach) in cases {
+        let (list, mut random) = (edge_words(n), Random(seed));
+        let table: Vec<u8> = full_table().into_iter().step_by(256 / values).take(values).collect();
         let area = 6 * n * n;
         let (original, texture) = (random.bytes(area), random.bytes(if textured { area } else { 0 }));
         let lent = Lent { list, count: list.len() / words_of(n), table: &table, texture: &texture };
-        let aim = Aim { original: &original, reach: 20 };
+        let aim = Aim { original: &original, reach };
         let empty = Sheet::new(n as u32, 3 * n as u32, 2 * n as u32).unwrap();
         let (mut samples, mut records) = (vec![1; area], vec![Record::default(); 7]);
         let (finished, written) = empty.compose(&mut samples, &lent, &aim, &mut records).unwrap();
