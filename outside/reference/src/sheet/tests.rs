@@ -150,7 +150,7 @@ fn refusals_of_placing_in_order_and_the_samples_untouched() {
     assert_eq!(samples, [7; 96]);
 }
 
-/// What placing a record on a sheet of one block answers, with three values, a second entry that is too long, and texture or none.
+/// What placing a record on a sheet of one block answers, with three values, a list whose second entry has bit 16, and texture or none.
 /// Refused, it leaves the samples.
 fn answer_to(record: &Record, textured: bool) -> Result<(), u32> {
     let (list, texture, mut samples) = ([0xFFF0, 0x10000], [0; 16], [7; 16]);

@@ -1,8 +1,8 @@
 //! Cases of side depths and predictions.
 
 use crate::patterns::test_patterns;
-use crate::slices::{full_table, given, pattern, random, Slice, SIZES};
-use reference::block::Pattern;
+use crate::slices::{full_table, given, pairs_about, pattern, random, spread_table, Slice, COUNTS, SIZES};
+use reference::block::{all_marked, Pattern};
 
 pub fn print() {
     sides();
@@ -87,7 +87,7 @@ fn predict_case(
     println!("predict {n} {} {} {} |n {border} |t {table} |s {block}", pattern(marked), offsets.0, offsets.1);
 }
 
-/// Predictions for patterns, tables and offset pairs, then some with words that are not read, then refusals.
+/// Predictions for patterns, tables and offset pairs, then some with words that are not read, those about the table count, then refusals.
 fn predictions() {
     let tables = [given(&[77]), given(&[100, 128, 140]), full_table()];
     let pairs = [(0, 0), (-1, 1), (1, -1), (-255, 255), (255, -255), (256, 0), (0, -256)];
@@ -105,13 +105,35 @@ fn predictions() {
             predict_case(n, &unread(marked), &border(n), &full_table(), (-1, 1), n * n);
         }
     }
+    for n in SIZES {
+        about_the_count(n);
+    }
     prediction_refusals();
 }
 
-/// Predictions refused: each takes one fault away from the one before it, so the order shows. Words 1 to 3 are 0.
+/// Predictions with offsets about the table count. The unmarked samples have depth 0 and the marked ones depth 255, or the other way
+/// round, so that each side stands at an end of the table, and what passes is held there or reaches the other end.
+fn about_the_count(n: usize) {
+    let border = given(&[vec![255; 2 * n], vec![0; 2 * n]].concat());
+    let (rows, all) = (test_patterns(n, 1)[7], all_marked(n));
+    let first_row = [0, 1, 2, 3].map(|k| all[k] ^ rows[k]);
+    for count in COUNTS {
+        for offsets in pairs_about(count) {
+            predict_case(n, &rows, &border, &spread_table(count), offsets, n * n);
+        }
+        let most = count as i32 - 1;
+        for offsets in [(-most, most), (most, -most), (-most, -most), (most, most)] {
+            predict_case(n, &first_row, &border, &spread_table(count), offsets, n * n);
+        }
+    }
+}
+
+/// Predictions refused: each takes one fault away from the one before it, so the order shows. Words 1 to 3 are 0. The second half has
+/// an offset that the table can't use in each.
 fn prediction_refusals() {
     for n in SIZES {
         let (border, none, fives, five) = (border(n), given(&[]), given(&[5, 5]), given(&[5]));
+        let three = given(&[100, 128, 140]);
         let short = given(&border.samples[..4 * n - 1]);
         for (other, word, border, table, offsets, length) in [
             (n + 1, 0x10000, &short, &none, (256, 0), n * n - 1),
@@ -123,6 +145,15 @@ fn prediction_refusals() {
             (n, 0x10, &border, &five, (256, 0), n * n),
             (n, 0x10, &border, &five, (0, -256), n * n),
             (n, 0x10000, &border, &five, (0, 0), n * n),
+            (n + 1, 0x10000, &short, &fives, (2, 256), n * n),
+            (n, 0x10000, &short, &fives, (2, 256), n * n),
+            (n, 0x10000, &border, &fives, (2, 256), n * n),
+            (n, 0x10000, &border, &five, (1, 256), n * n),
+            (n, 0x10000, &border, &five, (1, 0), n * n),
+            (n, 0x10, &border, &three, (3, 300), n * n),
+            (n, 0x10, &border, &three, (-256, 3), n * n),
+            (n, 0x10, &border, &three, (3, -3), n * n),
+            (n, 0x10, &border, &three, (2, -3), n * n),
         ] {
             predict_case(other, &[word, 0, 0, 0], border, table, offsets, length);
         }

@@ -9,7 +9,7 @@ use reference::table::index_of;
 /// The cases of the choices: fill of the original, fill of the border, table, reach, fill of the
 /// texture, list, fault (0 none, 1 the border a byte short, 2 the original a byte short, 3 the texture a
 /// byte short, 4 n is N + 1).
-const CHOICES: [[u32; 7]; 78] = [
+const CHOICES: [[u32; 7]; 106] = [
     // Flat blocks: ties between edges, offsets of both signs, ends of the reach and of the table.
     [0, 0, 3, 0, 15, 0, 0],
     [0, 0, 3, 5, 15, 0, 0],
@@ -87,7 +87,7 @@ const CHOICES: [[u32; 7]; 78] = [
     [2, 1, 3, 254, 15, 8, 0],
     [9, 0, 3, 255, 9, 8, 0],
     [3, 3, 2, 0, 3, 9, 0],
-    // Trials that go on past the table's ends, in tables of three values and of one.
+    // Trials in tables of three values and of one, whose reach is far above what the table can use.
     [6, 13, 2, 255, 6, 8, 0],
     [0, 3, 2, 255, 0, 9, 0],
     [0, 3, 0, 255, 8, 9, 0],
@@ -98,6 +98,36 @@ const CHOICES: [[u32; 7]; 78] = [
     [11, 3, 3, 255, 15, 3, 0],
     [0, 3, 0, 255, 15, 3, 0],
     [1, 3, 1, 255, 8, 3, 0],
+    // Reaches below, at and above the table count less 1: tables of one, two, three and 256 values.
+    [3, 3, 0, 0, 15, 8, 0],
+    [3, 3, 0, 1, 15, 8, 0],
+    [3, 3, 0, 255, 15, 8, 0],
+    [3, 3, 0, 256, 15, 8, 0],
+    [3, 3, 8, 0, 15, 8, 0],
+    [3, 3, 8, 1, 15, 8, 0],
+    [3, 3, 8, 2, 15, 8, 0],
+    [3, 3, 8, 255, 15, 8, 0],
+    [3, 3, 8, 256, 15, 8, 0],
+    [3, 3, 9, 1, 15, 8, 0],
+    [3, 3, 9, 2, 15, 8, 0],
+    [3, 3, 9, 3, 15, 8, 0],
+    [3, 3, 9, 255, 15, 8, 0],
+    [3, 3, 9, 256, 15, 8, 0],
+    [3, 3, 3, 254, 15, 8, 0],
+    [3, 3, 3, 255, 15, 8, 0],
+    [3, 3, 3, 256, 15, 8, 0],
+    [3, 3, 8, 255, 3, 0, 0],
+    [3, 3, 9, 1, 3, 0, 0],
+    [3, 3, 9, 2, 15, 0, 0],
+    [3, 3, 9, 255, 3, 0, 0],
+    // Trials that end at the farthest offset of either sign that the table can use, or would with one offset more.
+    [1, 2, 8, 255, 15, 8, 0],
+    [2, 1, 8, 255, 15, 8, 0],
+    [1, 2, 9, 255, 15, 8, 0],
+    [2, 1, 9, 2, 15, 8, 0],
+    [1, 2, 9, 1, 15, 8, 0],
+    [2, 1, 9, 1, 15, 8, 0],
+    [1, 2, 8, 0, 15, 8, 0],
 ];
 
 /// Sample i of a fill. The same numbers serve originals, textures and borders; x = i % n, y = i / n.
@@ -152,7 +182,9 @@ fn numbered_table(table: u32) -> Slice {
         5 => vec![],
         6 => vec![5, 5],
         7 => (0..257).map(|i| (i % 256) as u8).collect(),
-        _ => unreachable!("tables are 0 to 7"),
+        8 => vec![0, 255],
+        9 => vec![0, 128, 255],
+        _ => unreachable!("tables are 0 to 9"),
     };
     given(&values)
 }

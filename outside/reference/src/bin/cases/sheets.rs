@@ -1,11 +1,13 @@
 //! Cases of sheets: composed ones, some with records placed before, and the refusals of the sheet calls.
 
-use crate::slices::{built, full_table, given, listed, random, Slice};
+use crate::slices::{
+    built, full_table, given, listed, pairs_about, random, spread_table, Slice, COUNTS, SIZES,
+};
 use reference::edges::edge_list;
 
-/// The cases: n, width, height, original (0 smooth, 1 bytes), table (0 full, 1 three), reach, texture (0 none,
+/// The cases: n, width, height, original (0 smooth, 1 bytes), table (0 full, 1 three values, 2 two, 3 one), reach, texture (0 none,
 /// 1 bytes, 2 the original), first.
-const CASES: [[u32; 8]; 35] = [
+const CASES: [[u32; 8]; 46] = [
     [4, 4, 4, 0, 0, 0, 0, 0],
     [4, 4, 4, 1, 1, 1, 1, 0],
     [4, 4, 4, 1, 0, 5, 0, 0],
@@ -41,6 +43,18 @@ const CASES: [[u32; 8]; 35] = [
     [16, 16, 48, 1, 0, 1, 1, 1],
     [16, 64, 64, 1, 0, 5, 0, 3],
     [16, 128, 128, 1, 0, 1, 2, 0],
+    // Reaches about the table count less 1; with one value the records placed before are refused.
+    [4, 8, 8, 1, 3, 0, 0, 0],
+    [4, 8, 8, 1, 3, 255, 2, 2],
+    [4, 8, 8, 1, 2, 0, 2, 1],
+    [4, 8, 8, 1, 2, 1, 2, 0],
+    [4, 8, 8, 1, 2, 255, 2, 0],
+    [4, 12, 8, 1, 1, 1, 2, 2],
+    [4, 12, 8, 1, 1, 2, 2, 2],
+    [4, 12, 8, 1, 1, 3, 0, 0],
+    [8, 16, 16, 1, 1, 255, 2, 1],
+    [8, 16, 8, 1, 3, 1, 0, 1],
+    [16, 32, 16, 1, 2, 2, 2, 1],
 ];
 
 /// As many records are lent to composing a sheet.
@@ -56,6 +70,14 @@ pub fn print() {
     }
     for case in 0..=25 {
         place_refusal(case);
+    }
+    for n in SIZES {
+        for count in COUNTS {
+            placed_about_the_count(n, count);
+        }
+        for textured in [false, true] {
+            two_faults(n, textured);
+        }
     }
 }
 
@@ -131,7 +153,12 @@ fn composed(number: usize) {
         lent: RECORDS,
         list: built(n),
         samples: random(70000 + number, area),
-        table: if table == 0 { full_table() } else { given(&[100, 128, 140]) },
+        table: match table {
+            0 => full_table(),
+            1 => given(&[100, 128, 140]),
+            2 => given(&[60, 190]),
+            _ => given(&[77]),
+        },
         texture,
         original,
         records: (0..first).map(|i| first_record(i, count, textured)).collect(),
@@ -241,7 +268,7 @@ fn compose_refusal(case: usize) {
     given.print(true);
 }
 
-/// Placing in a refusal case.
+/// Placing in a refusal case: its record, the same with an offset that the table can't use, and with offsets that it can.
 fn place_refusal(case: usize) {
     let (n, width, height) = match case {
         21 => (4, 132, 8),
@@ -264,8 +291,61 @@ fn place_refusal(case: usize) {
         20 => area - 1,
         _ => area,
     });
-    given.records = vec![record(case)];
+    let [kind, entry, off0, off1] = record(case);
+    given.records = vec![[kind, entry, off0, off1], [kind, entry, -2, 3], [kind, entry, 2, -2]];
     given.print(false);
+}
+
+/// Records with offsets about the table count, of both kinds, placed in turn on a sheet that has room for all that pass.
+fn placed_about_the_count(n: usize, count: usize) {
+    let (side, entries) = (5 * n, edge_list(n).len());
+    let of_kinds = |(i, (off0, off1)): (usize, (i32, i32))| {
+        [[0, (3 * i % entries) as i32, off0, off1], [1, 0, off0, off1]]
+    };
+    Case {
+        state: [n, side, side, 0],
+        count: entries,
+        shown: n == 4,
+        reach: 0,
+        lent: 0,
+        list: built(n),
+        samples: random(90000 + n, side * side),
+        table: spread_table(count),
+        texture: random(91000 + n, side * side),
+        original: given(&[]),
+        records: pairs_about(count).into_iter().enumerate().flat_map(of_kinds).collect(),
+    }
+    .print(false);
+}
+
+/// Records that have an offset which the table can't use together with one other fault, then such an offset alone, then none. Of the
+/// list's entries the second has a bit that is too high for N = 4.
+fn two_faults(n: usize, textured: bool) {
+    let area = 2 * n * n;
+    Case {
+        state: [n, 2 * n, n, 0],
+        count: 2,
+        shown: false,
+        reach: 0,
+        lent: 0,
+        list: listed(if n == 16 { 8 } else { 2 }, &LIST),
+        samples: random(92000 + n, area),
+        table: given(&[100, 128, 140]),
+        texture: if textured { random(93000 + n, area) } else { given(&[]) },
+        original: given(&[]),
+        records: vec![
+            [2, 0, 3, 0],
+            [1, 1, 0, -3],
+            [0, 2, 3, 0],
+            [0, 0, 3, 300],
+            [0, 0, -256, 3],
+            [1, 0, 3, 0],
+            [0, 1, 0, 3],
+            [0, 0, 3, -3],
+            [0, 0, 2, -2],
+        ],
+    }
+    .print(false);
 }
 
 /// The record of a refusal case of placing.

@@ -31,6 +31,28 @@ pub fn full_table() -> Slice {
     given(&(0..=255).collect::<Vec<u8>>())
 }
 
+/// A table of so many values, whose first is 0 and, where there are more, whose last is 255.
+pub fn spread_table(count: usize) -> Slice {
+    given(&(0..count).map(|i| (i * 255 / (count - 1).max(1)) as u8).collect::<Vec<u8>>())
+}
+
+/// Offset pairs about what a table of so many values can use: count - 1, count, 255 and 256 of both signs, each in either place
+/// beside 0.
+pub fn pairs_about(count: usize) -> Vec<(i32, i32)> {
+    let mut pairs = Vec::new();
+    for size in [count as i32 - 1, count as i32, 255, 256] {
+        for pair in [(-size, 0), (size, 0), (0, -size), (0, size)] {
+            if !pairs.contains(&pair) {
+                pairs.push(pair);
+            }
+        }
+    }
+    pairs
+}
+
+/// The counts of the tables with which offsets about the count are tried.
+pub const COUNTS: [usize; 4] = [1, 2, 3, 256];
+
 /// The width of the steps, modulo 256, where all samples are one step apart and there are at least three.
 fn step_of(samples: &[u8]) -> Option<u8> {
     let step = samples.get(1)?.wrapping_sub(samples[0]);
