@@ -48,13 +48,19 @@ fn table(random: &mut Random) -> Vec<u8> {
     rising(random, count)
 }
 
-fn offset(random: &mut Random) -> i32 {
-    let range = random.pick(&[0, 1, 3, 20, 255]);
-    random.below(2 * range + 1) as i32 - range as i32
+/// An offset that a table of so many values can use, now and then the farthest of either sign.
+fn offset(random: &mut Random, values: usize) -> i32 {
+    let most = values - 1;
+    let range = random.pick(&[0, 1, 3, 20, 255]).min(most);
+    match random.below(12) {
+        0 => most as i32,
+        1 => -(most as i32),
+        _ => random.below(2 * range + 1) as i32 - range as i32,
+    }
 }
 
-/// A record, mostly one that is allowed.
-fn record(random: &mut Random, n: u32, aids: &Aids) -> Record {
+/// A record, mostly one that is allowed, for a table of so many values.
+fn record(random: &mut Random, n: u32, aids: &Aids, values: usize) -> Record {
     let contour = random.below(2) == 0 && !aids.texture.is_empty() || random.seldom(200);
     let known = aids.list(n).known(n as usize);
     let (kind, entry) = match (contour, known) {
@@ -63,7 +69,7 @@ fn record(random: &mut Random, n: u32, aids: &Aids) -> Record {
         (false, _) if random.seldom(8) => (0, known - 1),
         (false, _) => (0, random.below(known)),
     };
-    Record { kind, entry: entry as u32, off0: offset(random), off1: offset(random) }
+    Record { kind, entry: entry as u32, off0: offset(random, values), off1: offset(random, values) }
 }
 
 /// A case; a plain one is read as `show` reads.
@@ -74,8 +80,9 @@ pub fn any(random: &mut Random, built: &Built, plain: bool) -> Case {
     let placed = (width / n) * (height / n);
     let sheet = Sheet { n, width, height, placed };
     let aids = if plain { plain_aids(built) } else { any_aids(random, built, &sheet) };
-    let records = (0..placed).map(|_| record(random, n, &aids)).collect();
-    Case { sheet, table: table(random), records, aids }
+    let table = table(random);
+    let records = (0..placed).map(|_| record(random, n, &aids, table.len())).collect();
+    Case { sheet, table, records, aids }
 }
 
 impl Case {

@@ -9,7 +9,7 @@ pub struct Damage {
     pub apply: fn(&mut Vec<u8>, &Case, &mut Random),
 }
 
-pub const DAMAGES: [Damage; 21] = [
+pub const DAMAGES: [Damage; 23] = [
     Damage { name: "truncated", apply: truncated },
     Damage { name: "byte changed", apply: byte_changed },
     Damage { name: "byte inserted", apply: byte_inserted },
@@ -21,7 +21,9 @@ pub const DAMAGES: [Damage; 21] = [
     Damage { name: "several sizes", apply: fields::several_sizes },
     Damage { name: "table count", apply: fields::table_count },
     Damage { name: "value of no table", apply: fields::value },
+    Damage { name: "values dropped", apply: fields::values_dropped },
     Damage { name: "record not allowed", apply: fields::record },
+    Damage { name: "offset about the count", apply: fields::offset },
     Damage { name: "several fields of a record", apply: fields::several_fields },
     Damage { name: "space doubled or at an end", apply: fields::space },
     Damage { name: "carriage return", apply: carriage_return },

@@ -12,12 +12,13 @@ pub struct Fault {
     pub apply: fn(&mut Source, &mut Random),
 }
 
-pub const FAULTS: [Fault; 12] = [
+pub const FAULTS: [Fault; 14] = [
     Fault { name: "unfinished", apply: unfinished },
     Fault { name: "over-placed", apply: over_placed },
     Fault { name: "size", apply: size },
     Fault { name: "side", apply: side },
     Fault { name: "table", apply: table },
+    Fault { name: "values dropped", apply: values_dropped },
     Fault { name: "count", apply: count },
     Fault { name: "records short", apply: records_short },
     Fault { name: "space short", apply: space_short },
@@ -25,6 +26,7 @@ pub const FAULTS: [Fault; 12] = [
     Fault { name: "entry", apply: entry },
     Fault { name: "word", apply: word },
     Fault { name: "offset", apply: offset },
+    Fault { name: "offset about the count", apply: offset_about_the_count },
 ];
 
 /// The source of a made case; the space is what writing needs, or more.
@@ -102,6 +104,12 @@ fn table(source: &mut Source, random: &mut Random) {
     source.space += 1028;
 }
 
+/// The table is a shorter one, so that offsets which the longer one could use may be too far.
+fn values_dropped(source: &mut Source, random: &mut Random) {
+    let left = 1 + random.below(source.table.len().max(1));
+    source.table.truncate(left);
+}
+
 /// The words of a pattern of the source's size, also where that is not allowed.
 fn pattern_words(source: &Source) -> usize {
     words_of(source.sheet.n as usize)
@@ -171,13 +179,30 @@ fn word(source: &mut Source, random: &mut Random) {
     }
 }
 
+/// Puts an offset in either place of a record.
+fn put_offset(record: &mut Record, offset: i32, random: &mut Random) {
+    if random.seldom(2) {
+        record.off0 = offset;
+    } else {
+        record.off1 = offset;
+    }
+}
+
 fn offset(source: &mut Source, random: &mut Random) {
     change(source, random, |record, random| {
         let offset = random.pick(&[256, -256, 257, 1000, i32::MAX, i32::MIN]);
-        if random.seldom(2) {
-            record.off0 = offset;
-        } else {
-            record.off1 = offset;
+        put_offset(record, offset, random);
+    });
+}
+
+/// One offset of a record, or both, about what the table can use.
+fn offset_about_the_count(source: &mut Source, random: &mut Random) {
+    let count = source.table.len() as i32;
+    change(source, random, |record, random| {
+        for _ in 0..1 + random.below(2) {
+            let size = random.pick(&[count - 1, count, 255, 256]);
+            let offset = random.pick(&[-size, size]);
+            put_offset(record, offset, random);
         }
     });
 }

@@ -95,8 +95,23 @@ pub fn value(file: &mut Vec<u8>, case: &Case, random: &mut Random) {
     replace(file, 3 + at, 0, &value.to_string());
 }
 
+/// The last values go, and the count is the new one: offsets that the longer table could use may be too far.
+pub fn values_dropped(file: &mut Vec<u8>, case: &Case, random: &mut Random) {
+    let (values, left, mut lines) = (case.table.len(), 1 + random.below(case.table.len()), lines(file));
+    if lines.len() >= 3 + values {
+        lines.drain(3 + left..3 + values);
+        *file = lines.join(&10);
+        replace(file, 1, 3, &left.to_string());
+    }
+}
+
+/// The line of any of the records.
+fn record_line(case: &Case, random: &mut Random) -> usize {
+    4 + case.table.len() + random.below(case.records.len())
+}
+
 pub fn record(file: &mut Vec<u8>, case: &Case, random: &mut Random) {
-    let line = 4 + case.table.len() + random.below(case.records.len());
+    let line = record_line(case, random);
     match random.below(4) {
         0 => replace(file, line, 0, random.pick(&["1", "2", "3", "9", "10", "99999"])),
         1 => {
@@ -117,16 +132,32 @@ pub fn record(file: &mut Vec<u8>, case: &Case, random: &mut Random) {
     }
 }
 
+/// An offset about what the table can use: count - 1, count, 255 or 256, of either sign.
+fn about_the_count(case: &Case, random: &mut Random) -> String {
+    let count = case.table.len() as i32;
+    let size = random.pick(&[count - 1, count, 255, 256]);
+    random.pick(&[-size, size]).to_string()
+}
+
+/// One offset of a record, or both.
+pub fn offset(file: &mut Vec<u8>, case: &Case, random: &mut Random) {
+    let line = record_line(case, random);
+    for field in random.pick(&[&[2][..], &[3], &[2, 3]]) {
+        replace(file, line, *field, &about_the_count(case, random));
+    }
+}
+
 /// Two or more fields of one record, so that the order of its checks shows.
 pub fn several_fields(file: &mut Vec<u8>, case: &Case, random: &mut Random) {
-    let line = 4 + case.table.len() + random.below(case.records.len());
+    let line = record_line(case, random);
     for _ in 0..2 + random.below(3) {
         let count = case.list().count.min(99998);
         let entry = random.pick(&[0, 1, count.saturating_sub(1), count, 99999]).to_string();
-        match random.below(6) {
+        match random.below(8) {
             0 => replace(file, line, random.below(4), random.pick(&FIELDS)),
             1 => replace(file, line, 0, random.pick(&["0", "1", "2"])),
             2 | 3 => replace(file, line, 1, &entry),
+            4 | 5 => replace(file, line, 2 + random.below(2), &about_the_count(case, random)),
             _ => replace(file, line, 2 + random.below(2), random.pick(&["0", "255", "256", "-256", "99999"])),
         }
     }

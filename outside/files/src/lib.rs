@@ -9,6 +9,7 @@ pub mod fields;
 pub mod fixed;
 pub mod lent;
 pub mod library;
+pub mod offsets;
 pub mod random;
 pub mod reading;
 pub mod shown;

@@ -5,8 +5,8 @@ use std::collections::BTreeMap;
 /// The kinds of line that a file has.
 pub const PLACES: [&str; 8] = ["line 0", "title 1", "sizes", "depth", "value", "title", "record", "past end"];
 
-/// Each refusal of reading that document 01 knows, with the kind of line that it can stand at.
-const OF_READING: [(u32, usize); 18] = [
+/// Each refusal of reading that documents 01 and 02 know, with the kind of line that it can stand at.
+const OF_READING: [(u32, usize); 19] = [
     (2, 0),
     (9, 1),
     (9, 2),
@@ -24,11 +24,12 @@ const OF_READING: [(u32, usize); 18] = [
     (6, 6),
     (5, 6),
     (4, 6),
+    (24, 6),
     (9, 7),
 ];
 
 /// The answers of writing: 0 where a file is written, else the refusal.
-const OF_WRITING: [u32; 11] = [0, 1, 2, 8, 23, 22, 3, 7, 6, 5, 4];
+const OF_WRITING: [u32; 12] = [0, 1, 2, 8, 23, 22, 3, 7, 6, 5, 4, 24];
 
 /// What kind of line stands at this number, by the sizes in the file's second line.
 pub fn place_of(file: &[u8], line: u32) -> usize {
@@ -111,7 +112,7 @@ impl Tally {
             self.files, self.sound
         );
         println!("  number{}", PLACES.map(|place| format!("{place:>9}")).concat());
-        for number in [9, 1, 8, 2, 3, 7, 21, 6, 5, 4] {
+        for number in [9, 1, 8, 2, 3, 7, 21, 6, 5, 4, 24] {
             let cell = |place| match self.reads.get(&(number, place)) {
                 Some(count) => format!("{count:>9}"),
                 None => format!("{:>9}", "."),
@@ -141,7 +142,7 @@ impl Tally {
             }
         }
         for (number, place) in self.reads.keys().filter(|key| !OF_READING.contains(key)) {
-            found.push(format!("refusal {number} at {}: document 01 knows none", PLACES[*place]));
+            found.push(format!("refusal {number} at {}: there is none", PLACES[*place]));
         }
         for number in OF_WRITING {
             if !self.writes.contains_key(&number) {
@@ -149,7 +150,7 @@ impl Tally {
             }
         }
         for number in self.writes.keys().filter(|number| !OF_WRITING.contains(number)) {
-            found.push(format!("in writing {number} came up: document 01 knows none"));
+            found.push(format!("in writing {number} came up: there is none"));
         }
         let of_size = |n: u32| self.sizes.get(&n).copied().unwrap_or(0);
         let enough = [

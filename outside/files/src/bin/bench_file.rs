@@ -36,12 +36,12 @@ fn least(mut library: impl FnMut(), mut other: impl FnMut(), calls: u32) -> [f64
 
 fn case(random: &mut Random, built: &Built, side: u32, table: Vec<u8>) -> Case {
     let sheet = Sheet { n: 4, width: 4 * side, height: 4 * side, placed: side * side };
-    let aids = plain_aids(built);
+    let (aids, most) = (plain_aids(built), table.len() - 1);
     let record = |random: &mut Random| Record {
         kind: 0,
         entry: random.below(aids.list(4).count) as u32,
-        off0: random.below(511) as i32 - 255,
-        off1: random.below(511) as i32 - 255,
+        off0: random.below(2 * most + 1) as i32 - most as i32,
+        off1: random.below(2 * most + 1) as i32 - most as i32,
     };
     let records = (0..sheet.placed).map(|_| record(random)).collect();
     Case { sheet, table, records, aids }

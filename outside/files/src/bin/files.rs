@@ -8,11 +8,12 @@ use files::damage::DAMAGES;
 use files::faults::{source_of, FAULTS};
 use files::fixed;
 use files::lent::without_guards;
+use files::offsets::{self, Made};
 use files::random::Random;
 use files::reading::{self, own};
 use files::shown::Program;
 use files::tally::Tally;
-use files::writing;
+use files::writing::{self, Source};
 use std::path::PathBuf;
 use std::process::ExitCode;
 
@@ -31,40 +32,51 @@ fn damaged(case: &Case, random: &mut Random) -> (Vec<u8>, Vec<&'static str>) {
     (file, done)
 }
 
-/// Reads the file, and writes again what was read.
+/// Reads the file, and writes again what was read. Answers the refusal and its line.
 fn read_once(
     file: &[u8],
     aids: &reading::Aids,
     done: &[&'static str],
     tally: &mut Tally,
-) -> Result<(), String> {
+) -> Result<(u32, u32), String> {
     let back = reading::compare(file, aids)?;
     tally.read(file, back.answer.n, back.answer.refusal, back.answer.line, done);
     if back.answer.refusal == 0 {
         writing::write_again(file, aids, &back)?;
     }
-    Ok(())
+    Ok((back.answer.refusal, back.answer.line))
 }
 
-/// Writes a case, sound or with one fault or two, and reads back what was written.
-fn write_once(case: &Case, random: &mut Random, built: &Built, tally: &mut Tally) -> Result<(), String> {
-    let (mut source, mut done) = (source_of(case, random), Vec::new());
-    for _ in 0..random.pick(&[0, 0, 1, 1, 1, 2]) {
-        let fault = &FAULTS[random.below(FAULTS.len())];
-        (fault.apply)(&mut source, random);
-        done.push(fault.name);
-    }
-    let (refusal, written) = writing::compare(&source)?;
-    tally.wrote(refusal, &done);
+/// Writes a source, and reads back what was written. Answers the refusal.
+fn write_once(
+    source: &Source,
+    random: &mut Random,
+    built: &Built,
+    done: &[&'static str],
+    tally: &mut Tally,
+) -> Result<u32, String> {
+    let (refusal, written) = writing::compare(source)?;
+    tally.wrote(refusal, done);
     if refusal == 0 {
         let mut aids = plain_aids(built);
         aids.lists[own(source.sheet.n)] = source.list.clone();
         if source.fields.rows.iter().any(|row| row[0] == 1) {
             aids.texture = random.bytes(source.sheet.area() as usize);
         }
-        writing::read_back(&written, &source, &aids)?;
+        writing::read_back(&written, source, &aids)?;
     }
-    Ok(())
+    Ok(refusal)
+}
+
+/// Writes a case, sound or with one fault or two.
+fn write_case(case: &Case, random: &mut Random, built: &Built, tally: &mut Tally) -> Result<(), String> {
+    let (mut source, mut done) = (source_of(case, random), Vec::new());
+    for _ in 0..random.pick(&[0, 0, 1, 1, 1, 2]) {
+        let fault = &FAULTS[random.below(FAULTS.len())];
+        (fault.apply)(&mut source, random);
+        done.push(fault.name);
+    }
+    write_once(&source, random, built, &done, tally).map(|_| ())
 }
 
 /// Shows the file, where there is a program and fewer than its files are shown; every eighth comes through a pipe.
@@ -80,6 +92,25 @@ fn show_once(file: &[u8], show: &Option<(Program, u64)>, tally: &mut Tally) -> R
     }
 }
 
+/// Reads, shows and writes a file with offsets about the table count, which has to earn its own refusals.
+fn made_once(
+    made: &Made,
+    file: &[u8],
+    random: &mut Random,
+    built: &Built,
+    show: &Option<(Program, u64)>,
+    tally: &mut Tally,
+) -> Result<(), String> {
+    let read = read_once(file, &made.case.aids, &[], tally)?;
+    show_once(file, show, tally)?;
+    let written = write_once(&source_of(&made.case, random), random, built, &[], tally)?;
+    if (read, written) == (made.read, made.written) {
+        return Ok(());
+    }
+    let expected = (made.read, made.written);
+    Err(format!("refusal and line in reading, refusal in writing: {:?}, not {expected:?}", (read, written)))
+}
+
 /// All files; a difference is told with the file.
 fn run(seed: u64, files: u64, show: &Option<(Program, u64)>, tally: &mut Tally) -> Result<(), String> {
     let (mut random, built) = (Random::new(seed), Built::new());
@@ -90,19 +121,24 @@ fn run(seed: u64, files: u64, show: &Option<(Program, u64)>, tally: &mut Tally) 
     let fixed = fixed::fixed(&mut random, &built);
     for (number, file) in fixed.iter().enumerate() {
         let aids = plain_aids(&built);
-        let done = read_once(file, &aids, &[], tally).and_then(|()| show_once(file, show, tally));
+        let done = read_once(file, &aids, &[], tally).and_then(|_| show_once(file, show, tally));
         done.map_err(|what| told(number as u64, file, what))?;
+    }
+    for (number, made) in offsets::all(&built).iter().enumerate() {
+        let file = made.case.text();
+        made_once(made, &file, &mut random, &built, show, tally)
+            .map_err(|what| told(number as u64, &file, what))?;
     }
     for number in fixed.len() as u64..files {
         let plain = number % 2 == 0;
         let case = cases::any(&mut random, &built, plain);
         let (file, done) = damaged(&case, &mut random);
-        let mut once = read_once(&file, &case.aids, &done, tally);
+        let mut once = read_once(&file, &case.aids, &done, tally).map(|_| ());
         tally.unused += only_unused_wrong(&case.aids, case.sheet.n) as u64;
         if plain {
             once = once.and_then(|()| show_once(&file, show, tally));
         }
-        once.and_then(|()| write_once(&case, &mut random, &built, tally))
+        once.and_then(|()| write_case(&case, &mut random, &built, tally))
             .map_err(|what| told(number, &file, what))?;
     }
     Ok(())
