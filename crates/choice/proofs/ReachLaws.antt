@@ -18,7 +18,7 @@ use Rattle.depth_table.proofs.IndexLaws.{index-below}
 use Rattle.depth_table.proofs.LevelLaws.{table-some}
 use Rattle.prediction.specs.Sides.{sideDepth}
 use Rattle.record.specs.declared.Record.{Record}
-use Rattle.choice.specs.Case.{Case, reachInUse}
+use Rattle.choice.specs.Case.{Case}
 use Rattle.choice.specs.Cost.{sideCost}
 use Rattle.choice.specs.Offset.{InReach, Sooner, trial}
 use Rattle.choice.specs.Reach.{ReachEnough}
@@ -147,7 +147,7 @@ module _ (C : Case) where
 
   -- ---- the least within a reach R, and within the lesser of R and the last place
 
-  module _ (R near : ℕ) (e : near ≡ min R last) where
+  module _ {R near : ℕ} (e : near ≡ min R last) where
     shorter-in : {r : Record} → WithinReach R C r → WithinReach near C (shorter r)
     shorter-in {r} h =
         record {
@@ -187,7 +187,7 @@ pub reach-enough : (C : Case) → ReachEnough C
 reach-enough C =
     record {
       passes = within-passes C;
-      enough = λ r cost x. wider C (C .reach) (reachInUse C) refl x;
-      only = λ r cost x. narrower C (C .reach) (reachInUse C) refl x;
-      answered = λ h. wider C (C .reach) (reachInUse C) refl (chosen-least C (accepted C h .some));
+      enough = λ r cost x. wider C refl x;
+      only = λ r cost x. narrower C refl x;
+      answered = λ h. wider C refl (chosen-least C (accepted C h .some));
     }

@@ -77,6 +77,27 @@ unfolding bits clamped leastTo sumTo bytes rising tableOk nearestTo indexOf thre
     lengthsOk wordsOk chooseRefusal chooseAnswer
 answered = refl
 
+-- Document 02, Ask 4: with three values a reach of 3 or of 255 answers what one of 2 does; with one value one offset is tried for each side
+-- of seven entries; a reach of 256 is refused
+pub lowered :
+    map chooseAnswer
+    (with 7 wedge 2 []
+    ∷ with 7 wedge 3 []
+    ∷ with 7 wedge 255 []
+    ∷ caseOf 4 entries 7 (sampleNeighbours 80) wedge (128 ∷ []) 255 []
+    ∷ with 7 wedge 256 []
+    ∷ [])
+    ≡ answers 0 2 (pos 1) (pos 2) 1 60
+    ∷ answers 0 2 (pos 1) (pos 2) 1 60
+    ∷ answers 0 2 (pos 1) (pos 2) 1 60
+    ∷ answers 0 0 (pos 0) (pos 0) 109 14
+    ∷ refused 4
+    ∷ []
+unfolding bits clamped leastTo sumTo bytes rising tableOk nearestTo indexOf threshold contourOf
+    vertEdge horEdge ltBy brBy lt br sideDepth levelOf sideCost trialFrom bestCost bestPattern chosen triedAt tried
+    lengthsOk wordsOk chooseRefusal chooseAnswer
+lowered = refl
+
 -- the cost of the first of these records, from its predicted block
 pub cost-summed : costOf (with 7 wedge 2 []) (record { kind = 0; entry = 2; off0 = pos 1; off1 = pos 2 }) ≡ 1
 unfolding listOf clamped sumTo nearestTo indexOf vertEdge horEdge ltBy brBy lt br sideDepth levelOf sampleOf predicted difference
