@@ -42,6 +42,7 @@ shortened last (pos k) = pos (min k last)
 shortened zero (negsuc k) = pos 0
 shortened (suc last) (negsuc k) = negsuc (min k last)
 
+-- it is in the reach that the offset is in, and in `last`
 shortened-in : (R last : ℕ) (z : ℤ) → InReach R z → InReach (min R last) (shortened last z)
 shortened-in R last (pos k) h = omega arith
 shortened-in R zero (negsuc k) h = omega arith
@@ -58,7 +59,7 @@ shortened-sooner : (last : ℕ) (z : ℤ) → (shortened last z ≡ z) ⊎ Soone
 shortened-sooner last z =
     ⊎-elim (λ e. inl (trial-same (shortened last z) z e)) (λ l. inr (trial-sooner (shortened last z) z l)) (eq-or-lt-of-le (shortened-trial last z))
 
--- and it reaches the same place of a table whose last place is `last`
+-- and from any index it reaches the same place of a table whose last place is `last`
 clamped-shortened :
     (count last i : ℕ) (z : ℤ) → last ≡ count - 1 → (last ≡ 0) ⊎ (i ≤ last) → clamped count i (shortened last z) ≡ clamped count i z
 unfolding clamped
@@ -66,6 +67,7 @@ clamped-shortened count last i (pos k) e h = ⊎-elim (λ q. omega arith) (λ l.
 clamped-shortened count zero i (negsuc k) e h = omega arith
 clamped-shortened count (suc last) i (negsuc k) e h = ⊎-elim (λ q. absurd (omega arith)) (λ l. omega arith) h
 
+-- so it gives the same depth value
 pub level-shortened : (t : List ℕ) (d : ℕ) (z : ℤ) → levelOf t d (shortened (length t - 1) z) ≡ levelOf t d z
 unfolding levelOf
 level-shortened t d z =
@@ -78,13 +80,15 @@ level-shortened t d z =
 -- ---- a record with both offsets shortened
 
 module _ (C : Case) where
+  -- the last place of the table
   abbrev last : ℕ
   last = length (C .table) - 1
 
+  -- the record with both offsets brought to it
   abbrev shorter : Record → Record
   shorter r = record { kind = r .kind; entry = r .entry; off0 = shortened last (r .off0); off1 = shortened last (r .off1) }
 
-  -- it costs the same
+  -- its partitions cost the same, and so does it
   part-shortened : (w : ℕ) (m : Bool) (z : ℤ) → partCost C w m (shortened last z) ≡ partCost C w m z
   part-shortened w m z = ap (sideCost (C .n * C .n) (C .original) w m) (level-shortened (C .table) (sideDepth (C .n) w (C .neighbours) m) z)
 
@@ -148,6 +152,7 @@ module _ (C : Case) where
   -- ---- the least within a reach R, and within the lesser of R and the last place
 
   module _ {R near : ℕ} (e : near ≡ min R last) where
+    -- a record within R is brought within the lesser, and one within the lesser is within R
     shorter-in : {r : Record} → WithinReach R C r → WithinReach near C (shorter r)
     shorter-in {r} h =
         record {
@@ -159,6 +164,7 @@ module _ (C : Case) where
     wider-in : {r : Record} → WithinReach near C r → WithinReach R C r
     wider-in h = record { pattern-in = h .pattern-in; off0-in = omega (arith, h .off0-in); off1-in = omega (arith, h .off1-in) }
 
+    -- the least within the lesser is the least within R: each record within R has a shorter one at the same cost
     wider : {r : Record} {cost : ℕ} → LeastWithin near C r cost → LeastWithin R C r cost
     wider {r} x =
         record {
@@ -168,6 +174,7 @@ module _ (C : Case) where
           first = λ s h b. omega (arith, shorter-cost s, x .first (shorter s) (shorter-in h) (shorter-before s r b));
         }
 
+    -- and the other way round: the least within R is no longer than its shorter one, which would come first at the same cost
     narrower : {r : Record} {cost : ℕ} → LeastWithin R C r cost → LeastWithin near C r cost
     narrower {r} x =
         let short = shorter-in (x .within) in
@@ -187,7 +194,7 @@ pub reach-enough : (C : Case) → ReachEnough C
 reach-enough C =
     record {
       passes = within-passes C;
-      enough = λ r cost x. wider C refl x;
-      only = λ r cost x. narrower C refl x;
-      answered = λ h. wider C refl (chosen-least C (accepted C h .some));
+      enough = λ r cost x. wider C (omega arith) x;
+      only = λ r cost x. narrower C (omega arith) x;
+      answered = λ h. wider C (omega arith) (chosen-least C (accepted C h .some));
     }

@@ -77,8 +77,8 @@ unfolding bits clamped leastTo sumTo bytes rising tableOk nearestTo indexOf thre
     lengthsOk wordsOk chooseRefusal chooseAnswer
 answered = refl
 
--- Document 02, Ask 4: with three values a reach of 3 or of 255 answers what one of 2 does; with one value one offset is tried for each side
--- of seven entries; a reach of 256 is refused
+-- Document 02, Ask 4: with three values a reach of 3 or of 255 answers what one of 2 does; with one value one offset is tried for each
+-- side of seven entries; a reach of 256 is refused
 pub lowered :
     map chooseAnswer
     (with 7 wedge 2 []

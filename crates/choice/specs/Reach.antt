@@ -1,5 +1,4 @@
--- Document 02, Ask 4: only offsets that would pass are tried, and with the reach lowered to table count - 1 the least cost and the chosen
--- record are those of the reach as given.
+-- Document 02, Ask 4: only offsets that would pass are tried, and the reach in use is enough.
 use Prim.Native.Nat.{ℕ}
 use mathlib.Core.Path.{_≡_}
 use lib.ListN.{length}
@@ -11,10 +10,11 @@ use Rattle.choice.specs.Record.{Within, LeastWithin, LeastRecord}
 use Rattle.choice.specs.Refusal.{chooseRefusal}
 use Rattle.choice.specs.Search.{chosen}
 
+-- with the reach lowered to table count - 1, the least cost and the first record at that cost are those of the reach as given
 pub record ReachEnough (C : Case) : Type 0 where
   -- in a case that is not refused the offsets of every record within the reach in use pass their checks, 4 and 24
   pub passes : chooseRefusal C ≡ 0 → (r : Record) → Within C r → Hold (offsetChecks (length (C .table)) (r .off0) (r .off1))
-  -- a record that is the first of least cost within the reach in use is so within the reach as given, at the same cost
+  -- the first record of least cost within the reach in use is the first of least cost within the reach as given, at the same cost
   pub enough : (r : Record) (cost : ℕ) → LeastRecord C r cost → LeastWithin (C .reach) C r cost
   -- and no other record is
   pub only : (r : Record) (cost : ℕ) → LeastWithin (C .reach) C r cost → LeastRecord C r cost
