@@ -44,25 +44,26 @@ unfolding
 sample-shown = refl
 
 -- a file with another size or height or record
-abbrev printed : ℕ → ℕ → ℕ → ℕ → List ℕ
-printed n height kind entry = fileText n 4 height sampleTable (record { kind = kind; entry = entry; off0 = pos 0; off1 = pos 0 } ∷ [])
+abbrev printed : ℕ → ℕ → ℕ → ℕ → ℕ → List ℕ
+printed n height kind entry off0 = fileText n 4 height sampleTable (record { kind = kind; entry = entry; off0 = pos off0; off1 = pos 0 } ∷ [])
 
 -- no input, a last line without its end, a byte past the last record; a size that is not allowed, a height that is not, an outline without
--- texture, an entry past the list for n = 4
+-- texture, an entry past the list for n = 4; document 02, Ask 4: offset 200 on a table of three depths
 refusals-shown :
     (shownText [] ≡ refusalText 9 1)
     × (shownText (take 80 sampleFile) ≡ refusalText 9 8)
     × (shownText (sampleFile ++ (10 ∷ [])) ≡ refusalText 9 9)
-    × (shownText (printed 5 4 0 0) ≡ refusalText 1 2)
-    × (shownText (printed 4 6 0 0) ≡ refusalText 8 2)
-    × (shownText (printed 4 4 1 0) ≡ refusalText 21 8)
-    × (shownText (printed 4 4 0 74) ≡ refusalText 6 8)
+    × (shownText (printed 5 4 0 0 0) ≡ refusalText 1 2)
+    × (shownText (printed 4 6 0 0 0) ≡ refusalText 8 2)
+    × (shownText (printed 4 4 1 0 0) ≡ refusalText 21 8)
+    × (shownText (printed 4 4 0 74 0) ≡ refusalText 6 8)
+    × (shownText (printed 4 4 0 0 200) ≡ refusalText 24 8)
 unfolding
     shownText sizeIn aidsFor wordList inWords patternsOf patternAt listOf readFile readLengthsOk fileLines sizeMeaning
     valueMeaning recordRefusal offsetOk offsetUsable exactly sizeTitle depthTitle recordTitle sizeLine valueLine recordLine manyLines texts
     number signed moreDigits numberText numeral digitsOf furtherDigits bits candidate wedgelet holds keep ends starts wedgeletList
     fileText sizeText valueText recordText signedText signedNumeral
-refusals-shown = (refl, refl, refl, refl, refl, refl, refl)
+refusals-shown = (refl, refl, refl, refl, refl, refl, refl, refl)
 
 -- a refusal
 refusal-example : refusalText 9 1 ≡ bytesOf "refusal line\n9 1\n"
