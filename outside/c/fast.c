@@ -110,6 +110,9 @@ INLINE trial best_of_part(size_t words, const prepared *p, side part, const uint
 /* How many offsets a trial one by one takes for a side: up to its best one where that costs nothing, else all. */
 INLINE uint32_t tried(trial best, uint32_t reach) { return best.cost == 0 ? (uint32_t)best.number + 1 : 2 * reach + 1; }
 
+/* The reach in use: offsets that the table can't use are not tried. */
+static uint32_t reach_in_use(uint32_t reach, size_t table_len) { return reach < table_len ? reach : (uint32_t)table_len - 1; }
+
 static int32_t offset_of(size_t t) { return t % 2 == 0 ? (int32_t)(t / 2) : -1 - (int32_t)(t / 2); }
 
 static void contour_of(size_t n, const uint8_t *texture, uint64_t contour[4]) {
@@ -142,6 +145,7 @@ INLINE depth_bench_choice choose(size_t words, size_t n, const uint64_t *list, s
 
 depth_bench_choice fast_choose(size_t n, const uint64_t *list, size_t count, const uint8_t *border, const uint8_t *original,
     const uint8_t *table, size_t table_len, uint32_t reach, const uint8_t *texture) {
+    reach = reach_in_use(reach, table_len);
     return n == 16 ? choose(4, n, list, count, border, original, table, table_len, reach, texture)
         : choose(1, n, list, count, border, original, table, table_len, reach, texture);
 }

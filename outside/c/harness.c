@@ -17,7 +17,7 @@ typedef struct { size_t n; uint32_t kind, entry; slice texture; int null; } patt
 static uint64_t seed;
 static const char *part;
 static unsigned long number;
-static unsigned long seen[CALLS][22];
+static unsigned long seen[CALLS][25];
 
 static void show(const char *name, slice *s) {
     printf("  %s (%zu):", name, s->len);
@@ -85,12 +85,12 @@ static predict_case any_prediction(size_t n, uint32_t times) {
     size_t side = side_for(n);
     c.n = n;
     any_pattern(n, c.word);
-    c.off0 = any_offset(times);
-    c.off1 = any_offset(times);
     c.null = below(2) == 1;
     fill_samples(&c.border, length_near(4 * side, times));
     fill_table(&c.table, times);
     fill_samples(&c.block, length_near(side * side, times));
+    c.off0 = any_offset(c.table.len, times);
+    c.off1 = any_offset(c.table.len, times);
     return c;
 }
 
@@ -202,13 +202,16 @@ static const size_t order_sizes[] = { 4, 8, 16, 5, 12, 32, ((size_t)1 << 32) + 1
 /* Sizes, lengths, tables, patterns and offsets of a prediction, sound and wrong, each with each. */
 static int predictions_in_order(void) {
     static const uint64_t words[] = { 0x10, 0x10000 };
-    static const int32_t offsets[] = { -255, 256 };
+    static const int32_t offsets[][2] = { { 2, -2 }, { 3, 0 }, { 0, -3 }, { -255, 255 }, { 256, 0 }, { 0, -256 }, { 3, 300 },
+        { -256, -3 } };
     part = "order of predictions";
     number = 0;
     for (int s = 0; s < 7; s++) for (int b = 0; b < 3; b++) for (int o = 0; o < 3; o++) for (int t = 0; t < 3; t++)
-        for (int w = 0; w < 4; w++) for (int f = 0; f < 2; f++) {
+        for (int w = 0; w < 4; w++) for (int f = 0; f < 8; f++) {
             size_t n = order_sizes[s], side = side_for(n), other = other_side(n);
-            predict_case c = { .n = n, .word = { words[w % 2], w / 2 * UINT64_MAX, w / 2, 0 }, .off0 = 0, .off1 = offsets[f] };
+            predict_case c = { .n = n, .word = { words[w % 2], w / 2 * UINT64_MAX, w / 2, 0 } };
+            c.off0 = offsets[f][0];
+            c.off1 = offsets[f][1];
             fill_samples(&c.border, one_of(b, 4 * side, 4 * other));
             small_table(&c.table, t);
             fill_samples(&c.block, one_of(o, side * side, other * other));
@@ -218,9 +221,42 @@ static int predictions_in_order(void) {
     return 0;
 }
 
-static uint32_t any_reach(void) {
+/* The lengths of tables with which offsets and reaches about the length are tried. */
+static const size_t about_counts[] = { 1, 2, 3, 256 };
+
+/* A table of so many values from 0 on, the last one 255 where there are more. */
+static void spread_table(slice *s, size_t count) {
+    fill_near(s, count, 0, 0);
+    for (size_t i = 1; i < count; i++) start_of(s)[i] = (uint8_t)(255 * i / (count - 1));
+}
+
+/* Two offsets each with each: 0, and of both signs the table's length less 1, the length, 255 and 256; with both sides at the table's low
+   end and at its high end. The pattern has all rows but the first. */
+static int offsets_about_the_count(void) {
+    part = "offsets about the table's length";
+    number = 0;
+    for (size_t n = 4; n <= 16; n *= 2) for (int t = 0; t < 4; t++) for (int i = 0; i < 9; i++) for (int j = 0; j < 9; j++)
+        for (uint32_t depth = 0; depth < 256; depth += 255) {
+            int32_t count = (int32_t)about_counts[t];
+            const int32_t offsets[] = { 0, count - 1, 1 - count, count, -count, 255, -255, 256, -256 };
+            predict_case c = { .n = n, .word = { n == 4 ? 0xFFF0 : UINT64_MAX << n, UINT64_MAX, UINT64_MAX, UINT64_MAX } };
+            c.off0 = offsets[i];
+            c.off1 = offsets[j];
+            fill_near(&c.border, 4 * n, depth, 0);
+            spread_table(&c.table, about_counts[t]);
+            fill_samples(&c.block, n * n);
+            if (predict_differs(&c)) return 1;
+            number++;
+        }
+    return 0;
+}
+
+/* A reach: mostly small, or about what a table of so many values can use; seldom 255 or too far. */
+static uint32_t any_reach(size_t count) {
     static const uint32_t often[] = { 0, 1, 2, 5, 17 };
-    return seldom(20) ? 256 + below(1000) : seldom(20) ? 255 : often[below(5)];
+    if (seldom(20)) return 256 + below(1000);
+    if (seldom(20)) return 255;
+    return seldom(8) && count >= 2 ? (uint32_t)count - 2 + below(4) : often[below(5)];
 }
 
 /* The chosen record's own pattern, predicted by the library, differs from the original by the cost in the answer. */
@@ -266,13 +302,32 @@ static choose_case any_choice(size_t n, uint32_t times) {
     choose_case c;
     size_t side = side_for(n);
     c.n = n;
-    c.reach = any_reach();
     c.null = below(2) == 1;
     fill_samples(&c.border, length_near(4 * side, times));
     fill_samples(&c.original, length_near(side * side, times));
     fill_table(&c.table, times);
     fill_samples(&c.texture, below(2) ? 0 : length_near(side * side, times));
+    c.reach = any_reach(c.table.len);
     return c;
+}
+
+/* Reaches about the table's length, and far above it. */
+static int reaches_about_the_count(void) {
+    part = "reaches about the table's length";
+    number = 0;
+    for (size_t n = 4; n <= 16; n *= 2) for (int t = 0; t < 4; t++) for (int r = 0; r < 5; r++) {
+        uint32_t count = (uint32_t)about_counts[t];
+        const uint32_t reaches[] = { count < 2 ? 0 : count - 2, count - 1, count, 255, 256 };
+        if (count == 256 && r > 2) continue;
+        choose_case c = { .n = n, .reach = reaches[r] };
+        fill_samples(&c.border, 4 * n);
+        fill_samples(&c.original, n * n);
+        spread_table(&c.table, count);
+        fill_samples(&c.texture, r % 2 == 0 ? 0 : n * n);
+        if (choose_differs(&c)) return 1;
+        number++;
+    }
+    return 0;
 }
 
 static int choose_once(void) {
@@ -280,14 +335,15 @@ static int choose_once(void) {
     return choose_differs(&c);
 }
 
-/* Sizes, lengths, tables and reaches of a choice, sound and wrong, each with each. */
+/* Sizes, lengths, tables and reaches of a choice, sound and wrong, each with each; a reach above what the table can use is sound. */
 static int choices_in_order(void) {
+    static const uint32_t reaches[] = { 1, 3, 256 };
     part = "order of choices";
     number = 0;
     for (int s = 0; s < 7; s++) for (int b = 0; b < 3; b++) for (int o = 0; o < 3; o++) for (int x = 0; x < 4; x++)
-        for (int t = 0; t < 3; t++) for (int r = 0; r < 2; r++) {
+        for (int t = 0; t < 3; t++) for (int r = 0; r < 3; r++) {
             size_t n = order_sizes[s], side = side_for(n), other = other_side(n);
-            choose_case c = { .n = n, .reach = r == 0 ? 1 : 256 };
+            choose_case c = { .n = n, .reach = reaches[r] };
             fill_samples(&c.border, one_of(b, 4 * side, 4 * other));
             fill_samples(&c.original, one_of(o, side * side, other * other));
             fill_samples(&c.texture, x == 3 ? 0 : one_of(x, side * side, other * other));
@@ -337,7 +393,7 @@ static int repeat(const char *name, unsigned long times, int (*once)(void)) {
 }
 
 int main(int argc, char **argv) {
-    static const int of_predict[] = { 0, 1, 2, 3, 5, 4 }, of_choose[] = { 0, 1, 2, 3, 4 }, of_pattern[] = { 0, 1, 2, 7, 21, 6 };
+    static const int of_predict[] = { 0, 1, 2, 3, 5, 4, 24 }, of_choose[] = { 0, 1, 2, 3, 4 }, of_pattern[] = { 0, 1, 2, 7, 21, 6 };
     if (argc != 5) {
         fprintf(stderr, "usage: harness SEED PREDICTIONS CHOICES PATTERNS\n");
         return 2;
@@ -348,8 +404,9 @@ int main(int argc, char **argv) {
     printf("seed %llu: %lu predictions, %lu choices, %lu patterns\n", (unsigned long long)seed, predictions, choices, patterns);
     signal(SIGSEGV, crashed);
     if (null_in_turn() || patterns_in_order() || predictions_in_order() || choices_in_order() || patterns_of_lists()) return 1;
+    if (offsets_about_the_count() || reaches_about_the_count()) return 1;
     if (repeat("predictions", predictions, predict_once) || repeat("patterns", patterns, pattern_once)) return 1;
     if (repeat("choices", choices, choose_once)) return 1;
-    return all_seen(PREDICT, "predict", of_predict, 6) | all_seen(CHOOSE, "choose", of_choose, 5)
+    return all_seen(PREDICT, "predict", of_predict, 7) | all_seen(CHOOSE, "choose", of_choose, 5)
         | all_seen(PATTERN, "pattern_of", of_pattern, 6);
 }

@@ -100,12 +100,15 @@ static inline void fill_table(slice *s, uint32_t times) {
     }
 }
 
-/* An offset, mostly small, seldom out of range. */
-static inline int32_t any_offset(uint32_t times) {
+/* An offset, mostly one that a table of so many values can use, near 0 or not; seldom about the count, or out of range. */
+static inline int32_t any_offset(size_t count, uint32_t times) {
     static const int32_t outside[] = { 256, -256, 257, -257, 1000, -1000, INT32_MAX, INT32_MIN };
+    int32_t most = count == 0 ? 0 : count > 256 ? 255 : (int32_t)count - 1, range = below(2) ? 3 : 255;
+    const int32_t about[] = { most, most + 1, most + 2, 255 };
     if (seldom(times)) return outside[below(8)];
-    uint32_t range = below(2) ? 3 : 255;
-    return (int32_t)below(2 * range + 1) - (int32_t)range;
+    if (seldom(times)) return (below(2) ? 1 : -1) * about[below(4)];
+    if (range > most) range = most;
+    return (int32_t)below(2 * (uint32_t)range + 1) - range;
 }
 
 #endif

@@ -46,6 +46,9 @@ void plain_predict(size_t n, const uint64_t *pattern, const uint8_t *border, con
     else predict(1, n, pattern, border, table, table_len, off0, off1, block);
 }
 
+/* The reach in use: offsets that the table can't use are not tried. */
+static uint32_t reach_in_use(uint32_t reach, size_t table_len) { return reach < table_len ? reach : (uint32_t)table_len - 1; }
+
 /* What the samples of one side cost at a value. */
 INLINE uint32_t side_cost(size_t words, size_t samples, const uint64_t *pattern, int32_t side, const uint8_t *original, int32_t value) {
     uint32_t cost = 0;
@@ -127,6 +130,7 @@ INLINE depth_bench_choice choose(size_t words, size_t n, const uint64_t *list, s
 
 depth_bench_choice plain_choose(size_t n, const uint64_t *list, size_t count, const uint8_t *border, const uint8_t *original,
     const uint8_t *table, size_t table_len, uint32_t reach, const uint8_t *texture) {
+    reach = reach_in_use(reach, table_len);
     return n == 16 ? choose(4, n, list, count, border, original, table, table_len, reach, texture)
         : choose(1, n, list, count, border, original, table, table_len, reach, texture);
 }

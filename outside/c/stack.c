@@ -30,13 +30,13 @@ static void fill_input(input *in, unsigned long i) {
     size_t n = any_size(10), side = side_for(n);
     in->n = n;
     any_pattern(n, in->word);
-    in->off0 = any_offset(20);
-    in->off1 = any_offset(20);
     in->reach = i % 3 == 0 ? 255 : below(257);
     in->kind = below(2);
     in->entry = in->kind == 1 ? 0 : below(wedgelets_for(n) + 1);
     fill_samples(&in->border, length_near(4 * side, 20));
     fill_table(&in->table, 20);
+    in->off0 = any_offset(in->table.len, 20);
+    in->off1 = any_offset(in->table.len, 20);
     fill_samples(&in->samples, length_near(side * side, 20));
     fill_samples(&in->texture, below(2) ? 0 : length_near(side * side, 20));
 }

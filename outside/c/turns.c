@@ -1,6 +1,7 @@
 /* Times the choices of this build by turns with those of another one, call by call, and prints both times and their ratio: turns [ROUNDS].
    Where the machine is slower for a while, it is so for both. The calls of the other build have `other_` before their names
-   (outside/bench-choice). It ends with status 1 where a choice is refused or the two records differ. */
+   (outside/bench-choice). It ends with status 1 where a choice is refused or the two records or costs differ. How many offsets were tried
+   is not compared: another build may have no such field, or try offsets that the table can't use. */
 #include <stdio.h>
 #include <stdlib.h>
 
@@ -46,7 +47,7 @@ static void times(int rounds, int built, size_t n, uint32_t reach, double mean[2
             double spent = now() - start;
             if (spent < least[other][i]) least[other][i] = spent;
         }
-        if (!same(found[0], found[1])) { printf("\na choice is refused, or two records differ\n"); exit(1); }
+        if (!same(found[0], found[1])) { printf("\na choice is refused, or two records or costs differ\n"); exit(1); }
     }
     for (int other = 0; other < 2; other++) {
         mean[other] = 0;
