@@ -53,11 +53,13 @@ module _ (C : Case) (r : Record) where
   pub case-named : {x : Named} → given x ≡ meaning → drawRefusal C r ≡ 0
   case-named e = meaning-given (C .n) (C .list) (C .count) (textured (C .texture)) (length (C .table)) r e .0
 
-  -- the texture is whole where the contour is meant
-  pub case-lit : {m : ℕ} → given contour ≡ meaning → (length (C .texture) ≡ 0) ⊎ (length (C .texture) ≡ m) → length (C .texture) ≡ m
-  case-lit e =
+  -- the texture is whole where the contour is meant, whatever the table
+  pub case-lit :
+      (values : ℕ) {m : ℕ} → given contour ≡ recordMeaning (C .n) (C .list) (C .count) (textured (C .texture)) values r
+      → (length (C .texture) ≡ 0) ⊎ (length (C .texture) ≡ m) → length (C .texture) ≡ m
+  case-lit values e =
       ⊎-elim
-      (λ z. absurd (omega (arith, ltb-true 0 (length (C .texture)) (contour-lit (C .n) (C .list) (C .count) (textured (C .texture)) (length (C .table)) r e))))
+      (λ z. absurd (omega (arith, ltb-true 0 (length (C .texture)) (contour-lit (C .n) (C .list) (C .count) (textured (C .texture)) values r e))))
       (λ z. z)
 
   -- a record that is not refused can be drawn: its pattern marks samples of the block only, and its offsets are allowed

@@ -35,7 +35,7 @@ contour-of-requires : tie.Need-contour-of-requires
 contour-of-requires c κs =
     let m = c .before .before in
     let d = start m in
-    (d .pre .0 .size, case-lit (case d) (d .args .r) (sym (ap meaningTold (c .enum-told .given .1)) ∙ m .meaning-of .ensures) (d .pre .1))
+    (d .pre .0 .size, case-lit (case d) (d .args .r) _ (sym (ap meaningTold (c .enum-told .given .1)) ∙ m .meaning-of .ensures) (d .pre .1))
 
 returns : tie.Need-returns
 returns c =
