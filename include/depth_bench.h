@@ -38,7 +38,7 @@ typedef struct { uint32_t refusal, marks; } depth_bench_prediction;
  * off0, off1: what is added to the table index of the unmarked and of the marked samples.
  * cost: the sum of absolute differences between the record's prediction and the original.
  * tried: how many offsets were tried in all. A side of a pattern is its unmarked or its marked samples. For each side of each wedgelet,
- *   and of the contour where a texture is lent, offsets are tried in the order 0, -1, 1, -2, 2 .. -r, r, r being the lesser of the reach and
+ *   and of the contour where a texture is lent, offsets are tried in the order 0, -1, 1, -2, 2 .. -r, r, where r is the lesser of reach and
  *   table_len - 1, up to the first that costs nothing on that side, which counts too, or all 2 * r + 1 where none does; a side without
  *   samples takes one. */
 typedef struct { uint32_t refusal, kind, entry; int32_t off0, off1; uint32_t cost, tried; } depth_bench_choice;
@@ -68,8 +68,8 @@ depth_bench_prediction depth_bench_predict(size_t n, uint64_t word0, uint64_t wo
     size_t block_len);
 
 /* The record of least cost for the block `original`, out of all wedgelets of the list for n, the contour of `texture` where one is lent
- * (a texture of length 0 is none), and all offsets in -reach .. reach. Of these only -r .. r are tried, r being the lesser of the reach
- * and table_len - 1: one further out predicts what one nearer to 0 does, and depth_bench_predict refuses it. So the record is one that
+ * (a texture of length 0 is none), and all offsets in -reach .. reach. Of these only -r .. r are tried, where r is the lesser of the
+ * reach and table_len - 1: one further out predicts what one nearer to 0 does, and depth_bench_predict refuses it. So the record is one that
  * depth_bench_predict takes with the same table. A reach at or above table_len is no refusal.
  * Of records of equal cost the one that comes first is chosen: wedgelets before the contour, a lower entry before a higher one; then by
  * off0, then by off1, the one nearer to 0 first, and of two equally near the negative one.

@@ -37,7 +37,7 @@ unfolding offsetOk offsetUsable
 offset-passes R values z near some h = (le-leb (natAbs z) 255 (omega arith), lt-ltb (natAbs z) values (omega arith))
 
 -- an offset brought to -last .. last
-abbrev pub shortened : ℕ → ℤ → ℤ
+abbrev shortened : ℕ → ℤ → ℤ
 shortened last (pos k) = pos (min k last)
 shortened zero (negsuc k) = pos 0
 shortened (suc last) (negsuc k) = negsuc (min k last)
@@ -68,7 +68,7 @@ clamped-shortened count zero i (negsuc k) e h = omega arith
 clamped-shortened count (suc last) i (negsuc k) e h = ⊎-elim (λ q. absurd (omega arith)) (λ l. omega arith) h
 
 -- so it gives the same depth value
-pub level-shortened : (t : List ℕ) (d : ℕ) (z : ℤ) → levelOf t d (shortened (length t - 1) z) ≡ levelOf t d z
+level-shortened : (t : List ℕ) (d : ℕ) (z : ℤ) → levelOf t d (shortened (length t - 1) z) ≡ levelOf t d z
 unfolding levelOf
 level-shortened t d z =
     ap (λ (x : ℕ). getD t x 0) (clamped-shortened (length t) (length t - 1) (indexOf t d) z refl (go (decLt 0 (length t))))
@@ -151,9 +151,9 @@ module _ (C : Case) where
 
   -- ---- the least within a reach R, and within the lesser of R and the last place
 
-  module _ {R near : ℕ} (e : near ≡ min R last) where
+  module _ {R used : ℕ} (e : used ≡ min R last) where
     -- a record within R is brought within the lesser, and one within the lesser is within R
-    shorter-in : {r : Record} → WithinReach R C r → WithinReach near C (shorter r)
+    shorter-in : {r : Record} → WithinReach R C r → WithinReach used C (shorter r)
     shorter-in {r} h =
         record {
           pattern-in = h .pattern-in;
@@ -161,11 +161,11 @@ module _ (C : Case) where
           off1-in = rw e (shortened-in R last (r .off1) (h .off1-in));
         }
 
-    wider-in : {r : Record} → WithinReach near C r → WithinReach R C r
+    wider-in : {r : Record} → WithinReach used C r → WithinReach R C r
     wider-in h = record { pattern-in = h .pattern-in; off0-in = omega (arith, h .off0-in); off1-in = omega (arith, h .off1-in) }
 
     -- the least within the lesser is the least within R: each record within R has a shorter one at the same cost
-    wider : {r : Record} {cost : ℕ} → LeastWithin near C r cost → LeastWithin R C r cost
+    wider : {r : Record} {cost : ℕ} → LeastWithin used C r cost → LeastWithin R C r cost
     wider {r} x =
         record {
           within = wider-in (x .within);
@@ -175,13 +175,13 @@ module _ (C : Case) where
         }
 
     -- and the other way round: the least within R is no longer than its shorter one, which would come first at the same cost
-    narrower : {r : Record} {cost : ℕ} → LeastWithin R C r cost → LeastWithin near C r cost
+    narrower : {r : Record} {cost : ℕ} → LeastWithin R C r cost → LeastWithin used C r cost
     narrower {r} x =
         let short = shorter-in (x .within) in
         record {
           within =
               ⊎-elim
-              (λ q. subst (WithinReach near C) q short)
+              (λ q. subst (WithinReach used C) q short)
               (λ b. absurd (omega (arith, x .its-cost, shorter-cost r, x .first (shorter r) (wider-in short) b)))
               (shorter-same r);
           its-cost = x .its-cost;

@@ -15,10 +15,13 @@ pub record Case : Type 0 where
   pub reach : ℕ
   pub texture : List ℕ
 
--- Document 02, Ask 4: the reach in use, the smaller of the one given and table count - 1, so that only offsets that the table can use are
--- tried
+-- Document 02, Ask 4: of a reach R, what a table of so many values can use: the smaller of R and table count - 1
+abbrev pub usableReach : ℕ → ℕ → ℕ
+usableReach R values = min R (values - 1)
+
+-- the reach in use: only offsets that the table can use are tried
 abbrev pub reachInUse : Case → ℕ
-reachInUse C = min (C .reach) (length (C .table) - 1)
+reachInUse C = usableReach (C .reach) (length (C .table))
 
 abbrev pub caseOf : ℕ → List ℕ → ℕ → List ℕ → List ℕ → List ℕ → ℕ → List ℕ → Case
 caseOf n list count neighbours original table reach texture =

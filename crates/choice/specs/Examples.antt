@@ -51,7 +51,8 @@ turns = 128 ∷ 140 ∷ 128 ∷ 140 ∷ 140 ∷ 128 ∷ 140 ∷ 128 ∷ 128 ∷ 
 
 -- record, cost and offsets tried: with a reach of 2, of 1 and of 0; where every entry costs 0, the first entry and offsets 0; with texture,
 -- the contour beside seven entries and beside none; where a side has no sample, and an entry stands twice (5 + 1, 1 + 5, 3 + 5 and 3 + 5
--- offsets tried); and neither entry nor texture
+-- offsets tried); neither entry nor texture. Document 02, Ask 4: reaches of 3 and 255 answer what one of 2 does, since the table has three
+-- values; with one value, one offset is tried for each side of seven entries; a reach of 256 is refused
 pub answered :
     map chooseAnswer
     (with 7 wedge 2 []
@@ -62,6 +63,10 @@ pub answered :
     ∷ with 0 turns 2 turns
     ∷ caseOf 4 (0x0000 ∷ 0xFFFF ∷ 0xF730 ∷ 0xF730 ∷ []) 4 (sampleNeighbours 80) wedge sampleTable 2 []
     ∷ with 0 turns 2 []
+    ∷ with 7 wedge 3 []
+    ∷ with 7 wedge 255 []
+    ∷ caseOf 4 entries 7 (sampleNeighbours 80) wedge (128 ∷ []) 255 []
+    ∷ with 7 wedge 256 []
     ∷ [])
     ≡ answers 0 2 (pos 1) (pos 2) 1 60
     ∷ answers 0 0 (pos 1) (pos 1) 109 40
@@ -71,23 +76,6 @@ pub answered :
     ∷ answers 1 0 (pos 1) (pos 2) 0 8
     ∷ answers 0 2 (pos 1) (pos 2) 1 28
     ∷ refused 10
-    ∷ []
-unfolding bits clamped leastTo sumTo bytes rising tableOk nearestTo indexOf threshold contourOf
-    vertEdge horEdge ltBy brBy lt br sideDepth levelOf sideCost trialFrom bestCost bestPattern chosen triedAt tried
-    lengthsOk wordsOk chooseRefusal chooseAnswer
-answered = refl
-
--- Document 02, Ask 4: with three values a reach of 3 or of 255 answers what one of 2 does; with one value one offset is tried for each
--- side of seven entries; a reach of 256 is refused
-pub lowered :
-    map chooseAnswer
-    (with 7 wedge 2 []
-    ∷ with 7 wedge 3 []
-    ∷ with 7 wedge 255 []
-    ∷ caseOf 4 entries 7 (sampleNeighbours 80) wedge (128 ∷ []) 255 []
-    ∷ with 7 wedge 256 []
-    ∷ [])
-    ≡ answers 0 2 (pos 1) (pos 2) 1 60
     ∷ answers 0 2 (pos 1) (pos 2) 1 60
     ∷ answers 0 2 (pos 1) (pos 2) 1 60
     ∷ answers 0 0 (pos 0) (pos 0) 109 14
@@ -96,7 +84,7 @@ pub lowered :
 unfolding bits clamped leastTo sumTo bytes rising tableOk nearestTo indexOf threshold contourOf
     vertEdge horEdge ltBy brBy lt br sideDepth levelOf sideCost trialFrom bestCost bestPattern chosen triedAt tried
     lengthsOk wordsOk chooseRefusal chooseAnswer
-lowered = refl
+answered = refl
 
 -- the cost of the first of these records, from its predicted block
 pub cost-summed : costOf (with 7 wedge 2 []) (record { kind = 0; entry = 2; off0 = pos 1; off1 = pos 2 }) ≡ 1

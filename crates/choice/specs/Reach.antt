@@ -10,7 +10,7 @@ use Rattle.choice.specs.Record.{Within, LeastWithin, LeastRecord}
 use Rattle.choice.specs.Refusal.{chooseRefusal}
 use Rattle.choice.specs.Search.{chosen}
 
--- with the reach lowered to table count - 1, the least cost and the first record at that cost are those of the reach as given
+-- the least cost, and the first record at that cost, are the same within the reach in use and within the reach as given
 pub record ReachEnough (C : Case) : Type 0 where
   -- in a case that is not refused the offsets of every record within the reach in use pass their checks, 4 and 24
   pub passes : chooseRefusal C ≡ 0 → (r : Record) → Within C r → Hold (offsetChecks (length (C .table)) (r .off0) (r .off1))

@@ -2,7 +2,7 @@
 ghost use mathlib.Core.Path.{_≡_};
 ghost use mathlib.Core.Bool.{true, cond};
 ghost use mathlib.Core.Logic.{_⊎_};
-ghost use Prim.Native.Nat.{_-_, _*_, _<_, _≤_, min};
+ghost use Prim.Native.Nat.{_-_, _*_, _<_, _≤_};
 ghost use lib.Dec.{ltb};
 ghost use lib.ListN.{length, getD};
 ghost use Rattle.pattern.specs.Answer.{samplesRefusal};
@@ -11,7 +11,7 @@ ghost use Rattle.pattern.specs.Contour.{contourOf};
 ghost use Rattle.pattern.specs.Words.{patternNumber, patternsOf};
 ghost use Rattle.depth_table.specs.Table.{tableOk, indexOf};
 ghost use Rattle.choice.specs.Trial.{triedBy};
-ghost use Rattle.choice.specs.Case.{caseOf};
+ghost use Rattle.choice.specs.Case.{usableReach, caseOf};
 ghost use Rattle.choice.specs.Refusal.{chooseRefusal};
 ghost use Rattle.choice.specs.Search.{triedAt};
 ghost use Rattle.choice.specs.Picked.{blockCase, Weighable, Prepared, CaseIndices, SidesOf, PickedOf};
@@ -68,10 +68,10 @@ fn tried_by(best: Trial, reach: usize) -> u32
     2 * reach as u32 + 1
 }
 
-// The reach in use: the lesser of the one given and the number of table values less one.
+// The reach in use with a table of so many values: the lesser of the one given and their number less one.
 fn reach_in_use(reach: usize, values: usize) -> usize
     requires { ⌜ 1 ≤ values ⌝ }
-    ensures { λ r. ⌜ r ≡ min reach (values - 1) ⌝ }
+    ensures { λ r. ⌜ r ≡ usableReach reach values ⌝ }
 {
     lesser(reach, values - 1)
 }
@@ -205,7 +205,7 @@ pub(crate) fn best_pattern(
     let sums = eight_sums(original);
     let indices = case_indices(n, border, table);
     let contour = contour_or_none(n, texture);
-    let near = reach_in_use(reach, table.len());
+    let used = reach_in_use(reach, table.len());
     let end = last_pattern(count, texture.len()) + 1;
     let mut at: usize = 0;
     let mut best = Sides {
@@ -222,7 +222,7 @@ pub(crate) fn best_pattern(
             border,
             original,
             table,
-            near,
+            used,
             &below,
             &sums,
             &indices,

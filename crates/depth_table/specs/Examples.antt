@@ -33,7 +33,10 @@ sample-answers = refl
 -- offsets with three values: 2 and -2, which are used; 3 or -3 in either place; and 256, which is refused before a 3 is
 pub sample-offsets :
     map (λ (o : ℤ × ℤ). refusal (offsetChecks 3 (o .0) (o .1)) 0)
-    ((pos 2, negsuc 1) ∷ (pos 3, pos 0) ∷ (pos 0, pos 3) ∷ (negsuc 2, pos 0) ∷ (pos 0, negsuc 2) ∷ (pos 3, pos 256) ∷ (negsuc 255, pos 3) ∷ [])
+    ((pos 2, negsuc 1)
+    ∷ (pos 3, pos 0) ∷ (pos 0, pos 3) ∷ (negsuc 2, pos 0) ∷ (pos 0, negsuc 2)
+    ∷ (pos 3, pos 256) ∷ (negsuc 255, pos 3)
+    ∷ [])
     ≡ 0 ∷ 24 ∷ 24 ∷ 24 ∷ 24 ∷ 4 ∷ 4 ∷ []
 unfolding offsetOk offsetUsable
 sample-offsets = refl

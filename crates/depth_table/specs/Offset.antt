@@ -17,13 +17,15 @@ offsetOk off = leb (natAbs off) 255
 unfoldable pub offsetUsable : ℕ → ℤ → Bool
 offsetUsable values off = ltb (natAbs off) values
 
--- what is checked of two offsets where the table has so many values: both for 4, then both for 24
+-- both of two offsets are allowed
 abbrev pub offsetsOk : ℤ → ℤ → Bool
 offsetsOk off0 off1 = offsetOk off0 && offsetOk off1
 
+-- a table of so many values can use both of them
 abbrev pub offsetsUsable : ℕ → ℤ → ℤ → Bool
 offsetsUsable values off0 off1 = offsetUsable values off0 && offsetUsable values off1
 
+-- what is checked of two offsets where the table has so many values: both for 4, then both for 24
 abbrev pub offsetChecks : ℕ → ℤ → ℤ → List (Bool × ℕ)
 offsetChecks values off0 off1 = (offsetsOk off0 off1, 4) ∷ (offsetsUsable values off0 off1, 24) ∷ []
 

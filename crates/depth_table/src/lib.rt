@@ -1,6 +1,7 @@
 // The depth table (document 01, "Depth table"): depth values, depth indices, and the index of the nearest value.
 mod offset;
 
+pub use offset::magnitude;
 pub use offset::offsets_ok;
 pub use offset::offsets_usable;
 pub use offset::value_at;

@@ -1,6 +1,7 @@
 // Offsets, and the table value that an index and an offset give (document 01, "Predicted block").
 ghost use mathlib.Core.Path.{_≡_};
 ghost use Prim.Native.Nat.{_-_};
+ghost use lib.IntN.{natAbs};
 ghost use Rattle.arith.specs.Distance.{clamped};
 ghost use Rattle.depth_table.specs.Offset.{offsetOk, offsetUsable, offsetsOk, offsetsUsable};
 ghost use Rattle.depth_table.specs.Answer.{valueAnswer, valueTold};
@@ -10,29 +11,28 @@ use crate::Valued;
 use pattern::check;
 use pattern::lesser;
 
+// The absolute value of an offset.
+pub fn magnitude(off: i32) -> usize
+    ensures { λ r. ⌜ r ≡ natAbs off ⌝ }
+{
+    if off < 0 {
+        return (-1 - off) as usize + 1;
+    }
+    off as usize
+}
+
 // Whether an offset is -255 to 255.
 fn offset_ok(off: i32) -> bool
     ensures { λ r. ⌜ r ≡ offsetOk off ⌝ }
 {
-    if off < -255 {
-        return false;
-    }
-    if off > 255 {
-        return false;
-    }
-    true
+    magnitude(off) <= 255
 }
 
 // Whether a table of so many values can use an offset: its absolute value is below their number.
 fn offset_usable(values: usize, off: i32) -> bool
     ensures { λ r. ⌜ r ≡ offsetUsable values off ⌝ }
 {
-    if off < 0 {
-        let steps = (-1 - off) as usize;
-        return steps + 1 < values;
-    }
-    let steps = off as usize;
-    steps < values
+    magnitude(off) < values
 }
 
 // Whether two offsets are both -255 to 255.
@@ -68,11 +68,10 @@ fn clamped_place(count: usize, index: DepthIndex, off: i32) -> usize
 {
     let i = index.0;
     let last = minus(count, 1);
+    let steps = magnitude(off);
     if off < 0 {
-        let steps = (-1 - off) as usize;
-        return lesser(minus(i, steps + 1), last);
+        return lesser(minus(i, steps), last);
     }
-    let steps = off as usize;
     if last < i {
         return last;
     }

@@ -18,7 +18,7 @@ use Rattle.depth_table.specs.Table.{tableOk, someValue}
 use Rattle.pattern.specs.Size.{greatestSize, sizeOk}
 use Rattle.pattern.proofs.PatternLaws.{marks-counted}
 use Rattle.pattern.proofs.SizeLaws.{size-bounds}
-use Rattle.depth_table.specs.Offset.{offsetOk}
+use Rattle.depth_table.specs.Offset.{offsetOk, offsetsOk, offsetsUsable}
 use Rattle.prediction.specs.Answer.{lengthsOk, predictChecks, predictRefusalBy, predictAnswerBy, predictBlockBy, predictAnswer, Predictable}
 
 -- the checks of offsets that are read from their bits
@@ -64,8 +64,8 @@ pub record PredictAccepted (asked : Bool) (n w neighbours values : ℕ) (off0 of
   pub full : samples ≡ n * n
   pub as-asked : asked ≡ true
   pub inside : w < 2 ^ (n * n)
-  pub first : offsetOk off0 ≡ true
-  pub second : offsetOk off1 ≡ true
+  pub allowed : offsetsOk off0 off1 ≡ true
+  pub usable : offsetsUsable values off0 off1 ≡ true
 
 pub predict-accepted :
     (asked : Bool) (n w neighbours values : ℕ) (off0 off1 : ℤ) (samples : ℕ)
@@ -75,7 +75,6 @@ predict-accepted asked n w neighbours values off0 off1 samples h =
     let c = holds (predictChecks asked n w neighbours values off0 off1 samples) 0 h .0 in
     let b = size-bounds n (c .0) in
     let l = both-of (eqb neighbours (4 * n)) (eqb samples (n * n)) (c .1 .0) in
-    let o = both-of (offsetOk off0) (offsetOk off1) (c .1 .1 .1 .1 .0) in
     record {
       size = c .0;
       low = b .0;
@@ -84,22 +83,23 @@ predict-accepted asked n w neighbours values off0 off1 samples h =
       full = eqb-true _ _ (l .1);
       as-asked = c .1 .1 .0;
       inside = ltb-true w (2 ^ (n * n)) (c .1 .1 .1 .0);
-      first = o .0;
-      second = o .1;
+      allowed = c .1 .1 .1 .1 .0;
+      usable = c .1 .1 .1 .1 .1 .0;
     }
 
 -- then the values of the block can be worked out
 pub predictable :
     {asked : Bool} {n w : ℕ} (s : List ℕ) {t : List ℕ} {off0 off1 : ℤ} {samples : ℕ} → (asked ≡ true → someValue t ≡ true)
     → PredictAccepted asked n w (length s) (length t) off0 off1 samples → Predictable n s t off0 off1
-predictable s v p =
+predictable s {off0 = off0} {off1 = off1} v p =
+    let o = both-of (offsetOk off0) (offsetOk off1) (p .allowed) in
     record {
       some = omega (arith, p .low);
       high = p .high;
       long = p .long;
       valued = v (p .as-asked);
-      first = p .first;
-      second = p .second;
+      first = o .0;
+      second = o .1;
     }
 
 -- the number of marks in the answer is the number of marked samples

@@ -1,8 +1,8 @@
--- What `predict` answers, and what it leaves in the lent block: refusals in document 01's order, and the values. `predict_from_values`
+-- What `predict` answers, and what it leaves in the lent block: refusals in the papers' order, and the values. `predict_from_values`
 -- does the same of any values, rising or not: of the table it asks only that there is one.
 use Prim.Native.Nat.{ℕ, _*_, _≤_}
 use mathlib.Core.Bool.{Bool, true, _&&_}
-use mathlib.Core.List.{List, [], _∷_}
+use mathlib.Core.List.{List, _∷_}
 use mathlib.Core.Path.{_≡_}
 use lib.Count.{ones}
 use lib.Dec.{eqb}

@@ -67,7 +67,9 @@ placedAll M S old k l = (placedInTurn S M (inTurn l) (old .0) k, recordsOver l (
 -- all steps from r over the bytes s, with what is lent before and afterwards
 pub record ReadsAll (A : Aids) (table : List ℕ) (r : Reading) (s : List ℕ) (old new : Left) (t : LinesRead) : Type 0 where
   pub told : linesTold s t ≡ only (blockLines A (length table) r s)
-  pub left : PutIf (placedAll (materialFor A (r .sheet .n) table) (r .sheet) old (blocksOf (r .sheet))) (blockLines A (length table) r s) new
+  pub left :
+      PutIf (placedAll (materialFor A (r .sheet .n) table) (r .sheet) old (blocksOf (r .sheet)))
+      (blockLines A (length table) r s) new
 
 -- ---- after the lines before the records
 

@@ -45,7 +45,8 @@ sample-shown = refl
 
 -- a file with another size or height or record
 abbrev printed : ℕ → ℕ → ℕ → ℕ → ℕ → List ℕ
-printed n height kind entry off0 = fileText n 4 height sampleTable (record { kind = kind; entry = entry; off0 = pos off0; off1 = pos 0 } ∷ [])
+printed n height kind entry off0 =
+    fileText n 4 height sampleTable (record { kind = kind; entry = entry; off0 = pos off0; off1 = pos 0 } ∷ [])
 
 -- no input, a last line without its end, a byte past the last record; a size that is not allowed, a height that is not, an outline without
 -- texture, an entry past the list for n = 4; document 02, Ask 4: offset 200 on a table of three depths

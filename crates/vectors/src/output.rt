@@ -27,14 +27,6 @@ pub(crate) fn refused(r: u8) -> bool {
     number(r as u64)
 }
 
-// |z|
-fn magnitude(z: i32) -> u64 {
-    if z < 0 {
-        return (-1 - z) as u64 + 1;
-    }
-    z as u64
-}
-
 // A space and a signed number.
 pub(crate) fn signed(z: i32) -> bool {
     if z < 0 {
@@ -42,7 +34,7 @@ pub(crate) fn signed(z: i32) -> bool {
     } else {
         text(b" ");
     }
-    io::print_decimal(STDOUT_FILENO, magnitude(z))
+    io::print_decimal(STDOUT_FILENO, depth_table::magnitude(z) as u64)
 }
 
 // The checksum with one more number.
@@ -98,7 +90,7 @@ fn with_field(c: u64, z: i32, lent: bool, shown: bool) -> u64 {
     if shown {
         signed(z);
     }
-    step(step(c, (z < 0) as u64), magnitude(z))
+    step(step(c, (z < 0) as u64), depth_table::magnitude(z) as u64)
 }
 
 // The checksum with a record, where it is lent; prints the record where it is shown.

@@ -1,6 +1,7 @@
 //! What can be wrong with a source that is to be written.
 
 use crate::cases::Case;
+use crate::fields::about_the_count;
 use crate::lent::Fields;
 use crate::random::Random;
 use crate::writing::{space_for, Source};
@@ -197,11 +198,10 @@ fn offset(source: &mut Source, random: &mut Random) {
 
 /// One offset of a record, or both, about what the table can use.
 fn offset_about_the_count(source: &mut Source, random: &mut Random) {
-    let count = source.table.len() as i32;
+    let table = source.table.clone();
     change(source, random, |record, random| {
         for _ in 0..1 + random.below(2) {
-            let size = random.pick(&[count - 1, count, 255, 256]);
-            let offset = random.pick(&[-size, size]);
+            let offset = about_the_count(&table, random);
             put_offset(record, offset, random);
         }
     });

@@ -133,17 +133,17 @@ pub fn record(file: &mut Vec<u8>, case: &Case, random: &mut Random) {
 }
 
 /// An offset about what the table can use: count - 1, count, 255 or 256, of either sign.
-fn about_the_count(case: &Case, random: &mut Random) -> String {
-    let count = case.table.len() as i32;
+pub fn about_the_count(table: &[u8], random: &mut Random) -> i32 {
+    let count = table.len() as i32;
     let size = random.pick(&[count - 1, count, 255, 256]);
-    random.pick(&[-size, size]).to_string()
+    random.pick(&[-size, size])
 }
 
 /// One offset of a record, or both.
 pub fn offset(file: &mut Vec<u8>, case: &Case, random: &mut Random) {
     let line = record_line(case, random);
     for field in random.pick(&[&[2][..], &[3], &[2, 3]]) {
-        replace(file, line, *field, &about_the_count(case, random));
+        replace(file, line, *field, &about_the_count(&case.table, random).to_string());
     }
 }
 
@@ -157,7 +157,9 @@ pub fn several_fields(file: &mut Vec<u8>, case: &Case, random: &mut Random) {
             0 => replace(file, line, random.below(4), random.pick(&FIELDS)),
             1 => replace(file, line, 0, random.pick(&["0", "1", "2"])),
             2 | 3 => replace(file, line, 1, &entry),
-            4 | 5 => replace(file, line, 2 + random.below(2), &about_the_count(case, random)),
+            4 | 5 => {
+                replace(file, line, 2 + random.below(2), &about_the_count(&case.table, random).to_string())
+            }
             _ => replace(file, line, 2 + random.below(2), random.pick(&["0", "255", "256", "-256", "99999"])),
         }
     }

@@ -91,6 +91,7 @@ pub fn predict(
 #[cfg(test)]
 mod tests {
     use super::*;
+    use crate::table::spread_table;
 
     const TABLE_3: [u8; 3] = [100, 128, 140];
 
@@ -108,11 +109,6 @@ mod tests {
         assert_eq!(side_value(&TABLE_3, 255, -1), 128);
         assert_eq!(side_value(&TABLE_3, 0, 1), 128);
         assert_eq!(side_value(&[77], 0, 0), 77);
-    }
-
-    /// A table of so many values, whose first is 0 and whose last is 255 (of a single one 0).
-    fn spread_table(count: usize) -> Vec<u8> {
-        (0..count).map(|i| (i * 255 / (count - 1).max(1)) as u8).collect()
     }
 
     #[test]

@@ -27,6 +27,11 @@ pub fn index_of(table: &[u8], depth: u8) -> Result<usize, u32> {
     Ok(nearest_index(table, depth))
 }
 
+/// A table of so many values spread over 0 to 255 for tests and cases: the first is 0 and, where there are more, the last 255.
+pub fn spread_table(count: usize) -> Vec<u8> {
+    (0..count).map(|i| (i * 255 / (count - 1).max(1)) as u8).collect()
+}
+
 #[cfg(test)]
 mod tests {
     use super::*;

@@ -2,6 +2,7 @@ use super::*;
 use crate::block::{all_marked, list_words, transposed, transposed_pattern};
 use crate::edges::edge_list;
 use crate::random::Random;
+use crate::table::spread_table;
 
 /// A sound request for n = 4 with the given list: flat border 128, flat original 128.
 fn flat_request(list: &[u64]) -> Request<'_> {
@@ -22,11 +23,6 @@ fn both(request: &Request) -> Choice {
     let answer = choose_by_trial(request).unwrap();
     assert_eq!(choose(request), Ok(answer));
     answer
-}
-
-/// A table of `count` rising values spread over 0 to 255.
-fn spread_table(count: usize) -> Vec<u8> {
-    (0..count).map(|i| (i * 255 / (count - 1).max(1)) as u8).collect()
 }
 
 #[test]

@@ -20,12 +20,12 @@ use Rattle.choice.proofs.search.best_pattern.Statement.{statement}
 use Rattle.choice.proofs.search.best_pattern.Tie as tie
 
 abbrev Inv-loop : tie.InvT-loop
-Inv-loop n list count border original table reach texture below sums indices contour near end at₀ best₀ tried₀ p₀ at best tried p =
+Inv-loop n list count border original table reach texture below sums indices contour used end at₀ best₀ tried₀ p₀ at best tried p =
     let C = caseOf n (patternsOf n list) count border original table reach texture in
     (p ≤ end) × (end ≤ 10000) × SidesSoFar C p at (best .trial0) (best .trial1) (best .cost) × (tried ≡ triedTo C p)
 
 abbrev μ-loop : tie.MeasureT-loop
-μ-loop n list count border original table reach texture below sums indices contour near end at₀ best₀ tried₀ p₀ at best tried p = end - p
+μ-loop n list count border original table reach texture below sums indices contour used end at₀ best₀ tried₀ p₀ at best tried p = end - p
 
 -- the case, and that it is not refused
 abbrev given : (c : tie.Start Inv-loop μ-loop) → Case

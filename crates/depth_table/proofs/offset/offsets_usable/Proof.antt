@@ -1,6 +1,5 @@
 -- `offsets_usable` meets its contract, offset by offset.
 use mathlib.Core.Path.{sym, ap, _∙_}
-use borrow.Author.Needs.{needs}
 use borrow.Author.Tests.{not-true, not-false}
 use mir.Syntax.{w32}
 use mir.ValLaws.{toZ-ofZ}

@@ -128,8 +128,8 @@ fn about_the_count(n: usize) {
     }
 }
 
-/// Predictions refused: each takes one fault away from the one before it, so the order shows. Words 1 to 3 are 0. The second half has
-/// an offset that the table can't use in each.
+/// Predictions refused: each early fault together with later ones, so the order shows. Words 1 to 3 are 0. The second half has an offset
+/// that the table can't use in each.
 fn prediction_refusals() {
     for n in SIZES {
         let (border, none, fives, five) = (border(n), given(&[]), given(&[5, 5]), given(&[5]));

@@ -2,6 +2,7 @@
 
 use reference::block::Pattern;
 use reference::random::Random;
+use reference::table;
 
 /// The sizes, in the order in which each section has them.
 pub const SIZES: [usize; 3] = [4, 8, 16];
@@ -31,9 +32,9 @@ pub fn full_table() -> Slice {
     given(&(0..=255).collect::<Vec<u8>>())
 }
 
-/// A table of so many values, whose first is 0 and, where there are more, whose last is 255.
+/// A table of so many values spread over 0 to 255.
 pub fn spread_table(count: usize) -> Slice {
-    given(&(0..count).map(|i| (i * 255 / (count - 1).max(1)) as u8).collect::<Vec<u8>>())
+    given(&table::spread_table(count))
 }
 
 /// Offset pairs about what a table of so many values can use: count - 1, count, 255 and 256 of both signs, each in either place
