@@ -1,7 +1,7 @@
 -- Offsets as the code holds them. A signed local is known by its bits, so the code's offset is b = toZ w32 (ofZ w32 z) for the
 -- parameter z, and b ≡ z by `toZ-ofZ`. `mag z` is n both for n and for -(n + 1).
 use Prim.Native.Nat.{ℕ, suc, _+_, _-_, _<_, _^_, min}
-use mathlib.Core.Path.{_≡_, refl, sym, ap, _∙_}
+use mathlib.Core.Path.{_≡_, refl, ap, _∙_}
 use mathlib.Core.Bool.{true, false}
 use native.Mathlib.Omega.{arith}
 use lib.Dec.{T}
