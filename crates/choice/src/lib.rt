@@ -1,4 +1,6 @@
 // The choice of a record (document 01, "Choice").
+#![tactic(auto)]
+
 mod answer;
 mod cases;
 mod layers;
@@ -13,7 +15,7 @@ use record::Record;
 pub use refusal::choose_refusal;
 
 // What `choose` answers: the chosen record, its cost, and how many offsets were tried; or the number of the refusal.
-#[derive(Drop)]
+#[derive(Clone, Copy)]
 pub enum Choice {
     Chosen(Record, u32, u32),
     Refused(u8),

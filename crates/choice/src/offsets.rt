@@ -13,7 +13,7 @@ use depth_table::DepthIndex;
 use pattern::lesser;
 
 // The number of an offset, and what a part costs there.
-#[derive(Drop)]
+#[derive(Clone, Copy)]
 pub(crate) struct Trial {
     pub number: usize,
     pub cost: u32,

@@ -51,7 +51,7 @@ fn lower(below: &[u64; LAYER_WORDS], p: Pattern, v: usize) -> Pattern
 }
 
 // A part of a block: its samples as a pattern, how many there are, their sum, and whether the pattern may take more than one word.
-#[derive(Drop)]
+#[derive(Clone, Copy)]
 pub(crate) struct Part {
     pub marks: Pattern,
     pub size: u32,

@@ -62,7 +62,7 @@ fn reach_in_use(reach: usize, values: usize) -> usize
 }
 
 // The numbers of the best offsets of both partitions of a pattern, what it costs there, and how many offsets were tried.
-#[derive(Drop)]
+#[derive(Clone, Copy)]
 struct Sides {
     trial0: usize,
     trial1: usize,
@@ -158,7 +158,7 @@ fn last_pattern(count: usize, texture: usize) -> usize
 }
 
 // The number of the chosen pattern, those of its offsets, its cost, and how many offsets were tried for all patterns.
-#[derive(Drop)]
+#[derive(Clone, Copy)]
 pub(crate) struct Picked {
     pub number: usize,
     pub trial0: usize,

@@ -1,5 +1,7 @@
 // Composes one sheet, to be timed from outside: 128 by 128 samples where standard input begins with the byte 8, else 64 by 64; in
 // blocks of 4 or 16 where the next byte is 4 or 6, else of 8. It prints the side and the number of records written.
+#![tactic(auto)]
+
 use libc::{STDIN_FILENO, STDOUT_FILENO};
 use sheet::{Composed, MOST_BLOCKS, MOST_SAMPLES, Made, Sheet};
 use wedgelet::Listed;

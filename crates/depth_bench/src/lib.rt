@@ -1,4 +1,6 @@
 // The calls for C: include/depth_bench.h has their declarations.
+#![tactic(auto)]
+
 ghost use Rattle.std.specs.Prelude.{◌≡◌, true, ◌*◌, eqb, ltb, length, get_or};
 ghost use Rattle.arith.specs.Checks.{unless, refused, given, answer};
 ghost use Rattle.pattern.specs.Size.{size_ok};
@@ -18,7 +20,7 @@ use wedgelet::{LIST_WORDS, Listed};
 
 // The number of marks, or the number of the refusal beside 0.
 #[repr(C)]
-#[derive(Drop)]
+#[derive(Clone, Copy)]
 pub struct Prediction {
     pub refusal: u32,
     pub marks: u32,
@@ -26,7 +28,7 @@ pub struct Prediction {
 
 // The chosen record, its cost, and how many offsets were tried; or the number of the refusal beside 0.
 #[repr(C)]
-#[derive(Drop)]
+#[derive(Clone, Copy)]
 pub struct Choice {
     pub refusal: u32,
     pub kind: u32,
@@ -40,7 +42,7 @@ pub struct Choice {
 // The words of a pattern, lowest bit first: bit y * n + x is the mark of sample (x, y), so that for n = 16 word k has rows 4k to 4k + 3,
 // and below that words 1 to 3 are 0; or the number of the refusal beside zeros.
 #[repr(C)]
-#[derive(Drop)]
+#[derive(Clone, Copy)]
 pub struct Pattern {
     pub refusal: u32,
     pub word: [u64; WORDS],

@@ -1,4 +1,6 @@
 // The depth table (document 01, "Depth table"): depth values, depth indices, and the index of the nearest value.
+#![tactic(auto)]
+
 mod offset;
 
 ghost use Rattle.std.specs.Prelude.{◌≡◌};
@@ -9,22 +11,22 @@ ghost use Rattle.depth_table.specs.Answer.{nearest_answer, index_answer, index_t
 pub use offset::{magnitude, offsets_ok, offsets_usable, value_at};
 
 // A depth value, 0 to 255.
-#[derive(Drop)]
+#[derive(Clone, Copy)]
 pub struct DepthValue(pub u8);
 
 // An index into a depth table. It never stands for a depth value.
-#[derive(Drop)]
+#[derive(Clone, Copy)]
 pub struct DepthIndex(pub usize);
 
 // What `index_of` and `nearest_index` answer: an index, or the number of the refusal.
-#[derive(Drop)]
+#[derive(Clone, Copy)]
 pub enum Indexed {
     At(DepthIndex),
     Refused(u8),
 }
 
 // What `value_at` answers: a depth value, or the number of its refusal.
-#[derive(Drop)]
+#[derive(Clone, Copy)]
 pub enum Valued {
     At(DepthValue),
     Refused(u8),

@@ -1,5 +1,7 @@
 // Calls for the outside tests and the benchmarks, which link libfile_calls.a: those of the record file, and the choice with the list lent.
 // They are not part of include/depth_bench.h.
+#![tactic(auto)]
+
 ghost use Rattle.std.specs.Prelude.{◌≡◌, length};
 ghost use Rattle.pattern.specs.Words.{patterns_of};
 ghost use Rattle.choice.specs.Case.{case_of};
@@ -19,7 +21,7 @@ use sheet::Sheet;
 // What reading answers: the number of a refusal (0 for none) and its line; where there is none, the finished state, and the table with its
 // count.
 #[repr(C)]
-#[derive(Drop)]
+#[derive(Clone, Copy)]
 pub struct FileRead {
     pub refusal: u32,
     pub line: u32,
@@ -33,7 +35,7 @@ pub struct FileRead {
 
 // What writing answers: the length of the text, or the number of the refusal beside 0.
 #[repr(C)]
-#[derive(Drop)]
+#[derive(Clone, Copy)]
 pub struct FileWritten {
     pub refusal: u32,
     pub length: usize,
@@ -41,7 +43,7 @@ pub struct FileWritten {
 
 // What a choice answers: the record of least cost, its cost, and how many offsets were tried; or the number of the refusal beside 0.
 #[repr(C)]
-#[derive(Drop)]
+#[derive(Clone, Copy)]
 pub struct FileChosen {
     pub refusal: u32,
     pub kind: u32,

@@ -11,7 +11,7 @@ use crate::size::size_ok;
 use crate::words::{Pattern, past_word};
 
 // What the contour answers: its pattern, or the number of the refusal.
-#[derive(Drop)]
+#[derive(Clone, Copy)]
 pub enum Contoured {
     Pattern(Pattern),
     Refused(u8),

@@ -1,4 +1,6 @@
 // Patterns of n by n samples, and the contour; the steps of a chain of checks.
+#![tactic(auto)]
+
 mod checks;
 mod contours;
 mod size;

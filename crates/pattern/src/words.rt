@@ -11,7 +11,7 @@ use crate::size::GREATEST_SIZE;
 pub const WORDS: usize = 4;
 
 // A pattern: bit k is bit k % 64 of word k / 64. For n up to 8 the first word holds all of it.
-#[derive(Drop)]
+#[derive(Clone, Copy)]
 pub struct Pattern {
     pub w0: u64,
     pub w1: u64,

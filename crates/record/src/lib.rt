@@ -1,4 +1,6 @@
 // A record (document 01, "Choice", "Sheet" and "House file"): what its kind and entry mean, its checks, and records as they are lent.
+#![tactic(auto)]
+
 mod lent;
 mod meaning;
 
@@ -6,7 +8,7 @@ pub use lent::{fields_of, record_in};
 pub use meaning::{Meaning, meaning_of};
 
 // A record: its kind and entry, which name the pattern, and the offsets of partitions 0 and 1.
-#[derive(Drop)]
+#[derive(Clone, Copy)]
 pub struct Record {
     pub kind: u32,
     pub entry: u32,

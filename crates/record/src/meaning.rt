@@ -10,7 +10,7 @@ use crate::Record;
 use pattern::{Pattern, check};
 
 // What a record means: the pattern that the list has at its entry, the contour of its block's texture, or the number of a refusal.
-#[derive(Drop)]
+#[derive(Clone, Copy)]
 pub enum Meaning {
     Listed(Pattern),
     Contour,

@@ -1,4 +1,6 @@
 // Printing the text of the record file (document 01: house file) to lent bytes: numerals, fields and lines.
+#![tactic(auto)]
+
 mod digits;
 mod put;
 mod put_line;

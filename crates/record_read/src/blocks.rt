@@ -10,7 +10,7 @@ use record_text::{Cursor, RecordRead, read_record_line};
 use sheet::{Placed, Sheet};
 
 // Where reading has come to: the place in the bytes, the number of the line there, and the sheet so far.
-#[derive(Drop)]
+#[derive(Clone, Copy)]
 pub(crate) struct Reading {
     pub at: usize,
     pub line: u32,
@@ -18,7 +18,7 @@ pub(crate) struct Reading {
 }
 
 // The record of a line and where reading then is, or a refusal and its line.
-#[derive(Drop)]
+#[derive(Clone, Copy)]
 enum Stepped {
     Next(Record, Reading),
     Refused(u8, u32),

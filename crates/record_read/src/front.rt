@@ -12,7 +12,7 @@ use record_text::{Cursor, SizeFields, TextRead, read_record_title};
 
 // What `read_front` answers: the number of a refusal (0 for none) and its line; where there is none, the size line's numbers, the place
 // after the lines, and the table.
-#[derive(Drop)]
+#[derive(Clone, Copy)]
 pub(crate) struct Front {
     pub refusal: u8,
     pub line: u32,

@@ -1,4 +1,6 @@
 // Reading a record file (document 01, "House file"), in one pass: the lines before the records, then a step for each block.
+#![tactic(auto)]
+
 mod blocks;
 mod copy;
 mod front;

@@ -15,14 +15,14 @@ use record_text::{
 use sheet::new_refusal;
 
 // A table value and the place after its line, or a refusal and its line.
-#[derive(Drop)]
+#[derive(Clone, Copy)]
 pub(crate) enum ValueRead {
     Value(u32, Cursor),
     Refused(u8, u32),
 }
 
 // The size line's numbers and the place after the third line, or a refusal and its line.
-#[derive(Drop)]
+#[derive(Clone, Copy)]
 pub(crate) enum SizeBack {
     Value(SizeFields, Cursor),
     Refused(u8, u32),

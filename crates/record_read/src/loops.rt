@@ -10,7 +10,7 @@ use crate::lines::{ValueRead, value_line};
 use record_text::Cursor;
 
 // The place after the last of several lines, or a refusal and its line.
-#[derive(Drop)]
+#[derive(Clone, Copy)]
 pub(crate) enum LinesRead {
     Done(Cursor),
     Refused(u8, u32),

@@ -61,7 +61,7 @@ fn read_lengths_ok(samples: usize, records: usize, lists: bool) -> bool
 }
 
 // What `read` answers: the number of a refusal (0 for none) and its line; where there is none, the finished state, the table and its count.
-#[derive(Drop)]
+#[derive(Clone, Copy)]
 pub struct FileBack {
     pub refusal: u8,
     pub line: u32,

@@ -8,14 +8,14 @@ use crate::cursor::Cursor;
 use crate::sign::{negative, positive};
 
 // A number and the place after its field, or text of another form.
-#[derive(Drop)]
+#[derive(Clone, Copy)]
 pub enum NumberRead {
     Value(u32, Cursor),
     Bad,
 }
 
 // A signed number and the place after its field, or text of another form.
-#[derive(Drop)]
+#[derive(Clone, Copy)]
 pub enum SignedRead {
     Value(i32, Cursor),
     Bad,

@@ -1,7 +1,7 @@
 // The values that lines carry.
 
 // The numbers of the line under `size width height values`.
-#[derive(Drop)]
+#[derive(Clone, Copy)]
 pub struct SizeFields {
     pub n: u32,
     pub width: u32,

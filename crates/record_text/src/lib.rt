@@ -1,4 +1,6 @@
 // The record file's fields and lines (document 01: house file), and reading them.
+#![tactic(auto)]
+
 mod cursor;
 mod field;
 mod fields;

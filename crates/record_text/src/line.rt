@@ -12,21 +12,21 @@ use crate::sign::unsigned;
 use record::Record;
 
 // The place after a given text, or other text.
-#[derive(Drop)]
+#[derive(Clone, Copy)]
 pub enum TextRead {
     Past(Cursor),
     Bad,
 }
 
 // A size line's numbers and the place after it, or a line of another form.
-#[derive(Drop)]
+#[derive(Clone, Copy)]
 pub enum SizeRead {
     Value(SizeFields, Cursor),
     Bad,
 }
 
 // A record line's numbers and the place after it, or a line of another form.
-#[derive(Drop)]
+#[derive(Clone, Copy)]
 pub enum RecordRead {
     Value(Record, Cursor),
     Bad,

@@ -1,4 +1,6 @@
 // Writing a record file (document 01, "House file").
+#![tactic(auto)]
+
 mod checks;
 mod writing;
 

@@ -20,7 +20,7 @@ use record_text::{Cursor, SizeFields};
 use sheet::Sheet;
 
 // What `write` answers: the length of the text, or the number of its refusal.
-#[derive(Drop)]
+#[derive(Clone, Copy)]
 pub enum Wrote {
     Length(usize),
     Refused(u8),

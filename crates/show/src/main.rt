@@ -1,4 +1,6 @@
 // Prints the sheet of the record file on standard input, or its refusal (document 01, "House file").
+#![tactic(auto)]
+
 use libc::{STDIN_FILENO, STDOUT_FILENO};
 use show_text::{FILE_BYTES, Shown, TEXT_BYTES};
 

@@ -1,4 +1,6 @@
 // What `show` prints of a record file (document 01, "House file"), as bytes.
+#![tactic(auto)]
+
 mod printing;
 mod showing;
 

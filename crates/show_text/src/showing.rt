@@ -23,7 +23,7 @@ pub const FILE_BYTES: usize = 80 + 4 * VALUES + 32 * MOST_BLOCKS + 1;
 pub const TEXT_BYTES: usize = 27 + 4 * MOST_SAMPLES;
 
 // What `show_text` answers: the length of the text, or the number of its refusal.
-#[derive(Drop)]
+#[derive(Clone, Copy)]
 pub enum Shown {
     Length(usize),
     Refused(u8),

@@ -1,5 +1,7 @@
 // Reads cases from standard input, one a line, makes the call that each names, and prints a line with its answer. outside/README.md has the
 // form of the cases and of the answers. A line of another form ends the program with the line `bad case`.
+#![tactic(auto)]
+
 ghost use Rattle.std.specs.Prelude.{◌<◌};
 
 mod blocks;

@@ -13,7 +13,7 @@ pub(crate) const FIELDS: usize = 4096;
 const NUMBERS: usize = 4080;
 
 // A number of the text, the letter of a bar that stands instead, else 0, and the place after it.
-#[derive(Drop)]
+#[derive(Clone, Copy)]
 struct Field {
     value: u64,
     letter: u8,

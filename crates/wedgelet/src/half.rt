@@ -10,7 +10,7 @@ ghost use Rattle.wedgelet.specs.Half.{in_half, Small, flip};
 use pattern::{Pattern, lesser, one_word};
 
 // The samples at which the low sum is below the high one: each sum is given at (0,0), with what a column and a row add to it.
-#[derive(Drop)]
+#[derive(Clone, Copy)]
 pub(crate) struct Half {
     pub low: usize,
     pub lcol: usize,

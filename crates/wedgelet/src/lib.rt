@@ -1,4 +1,6 @@
 // The wedgelet list (document 01, "Edge list").
+#![tactic(auto)]
+
 mod candidates;
 mod entries;
 mod half;

@@ -19,7 +19,7 @@ pub const LIST_WORDS: usize = pattern::WORDS * PATTERNS;
 const MARKS: usize = pattern::SAMPLES + 1;
 
 // What building the list answers: the number of its patterns, or the number of the refusal.
-#[derive(Drop)]
+#[derive(Clone, Copy)]
 pub enum Listed {
     Count(usize),
     Refused(u8),
