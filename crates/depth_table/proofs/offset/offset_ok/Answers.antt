@@ -1,0 +1,13 @@
+-- `offset_ok` meets its contract, by the offset's absolute value.
+use Prim.Native.Nat.{ℕ}
+use mathlib.Core.Path.{ap, ◌∙◌}
+use lib.Dec.{leb}
+use lib.IntN.{nat_abs}
+use mir.Syntax.{w32}
+use mir.ValLaws.{to_z-of_z}
+use Rattle.depth_table.specs.Offset.{offset_ok}
+use Rattle.depth_table.proofs.offset.offset_ok.Goals as goal
+
+pub returns : goal.returns
+unfolding offset_ok
+returns c = ap (λ (x : ℕ). leb x 255) (c.magnitude.ensures ∙ ap nat_abs (to_z-of_z w32 _ c.ranges.off))

@@ -1,0 +1,36 @@
+-- `half_of` meets its contract: a product of two coordinates is at most 225.
+use Prim.Native.Nat.{ℕ, ◌*◌, ◌≤◌, ◌<◌}
+use native.Mathlib.Nat.{mul-le-mul}
+use native.Mathlib.Omega.{arith}
+use Rattle.wedgelet.proofs.HalfLaws.{half-beside, half-other}
+use Rattle.wedgelet.proofs.half.half_of.Goals as goal
+
+product : (a b : ℕ) → a < 16 → b < 16 → a * b ≤ 15 * 15
+product a b h l = mul-le-mul {n₂ = 15} {m₂ = 15} (omega arith) (omega arith)
+
+pub overflow_mul-low : goal.overflow_mul-low
+overflow_mul-low c = let a = c.args in omega (arith, product a.ys a.xe (omega arith) (omega arith))
+
+pub overflow_mul-high : goal.overflow_mul-high
+overflow_mul-high c = let a = c.args in omega (arith, product a.xs a.ye (omega arith) (omega arith))
+
+pub overflow_add-result : goal.overflow_add-result
+overflow_add-result c = let a = c.args in omega (arith, product a.ys a.xe (omega arith) (omega arith))
+
+pub returns-then-low-high : goal.returns-then-low-high
+returns-then-low-high c =
+    let a = c.args in
+    let u = product a.xs a.ye (omega arith) (omega arith) in
+    let v = product a.ys a.xe (omega arith) (omega arith) in (
+      record { low_le = omega arith; lcol_lt = omega arith; lrow_lt = omega arith; high_le = omega arith; hcol_lt = omega arith; hrow_lt = omega arith },
+      λ x y. half-other a.xs a.ys a.xe a.ye x y c.if-low-high.true,
+    )
+
+pub returns : goal.returns
+returns c =
+    let a = c.args in
+    let u = product a.xs a.ye (omega arith) (omega arith) in
+    let v = product a.ys a.xe (omega arith) (omega arith) in (
+      record { low_le = omega arith; lcol_lt = omega arith; lrow_lt = omega arith; high_le = omega arith; hcol_lt = omega arith; hrow_lt = omega arith },
+      λ x y. half-beside a.xs a.ys a.xe a.ye x y c.if-low-high.false,
+    )
