@@ -3,7 +3,6 @@ use Rattle.std.specs.Prelude.{ℕ, ◌≡◌, Bool, true, false, not, ◌||◌, 
 use Rattle.depth_table.specs.Examples.{sample_table}
 use Rattle.prediction.specs.Cases.{sample_neighbours}
 use Rattle.choice.specs.Case.{Case, case_of}
-use Rattle.choice.specs.Examples.{wedge}
 use Rattle.choice.specs.Refusal.{choose_refusal}
 use Rattle.record.specs.declared.Record.{Record}
 use Rattle.choice.specs.Search.{chosen, tried}
@@ -20,7 +19,10 @@ list =
     0xEEC8 ∷ 0xEC00 ∷ 0xE000 ∷ 0xFEEC ∷ 0xFEC0 ∷ 0xFE00 ∷ 0x7000 ∷ 0x3000 ∷ 0x1000 ∷ 0xFFE8 ∷ 0xFFE0 ∷ 0xF700 ∷
     0x7300 ∷ 0x1100 ∷ []
 
--- spots that no entry comes near
+-- an edge that no entry has exactly, and spots that no entry comes near
+abbrev pub edge : List ℕ
+edge = 128 ∷ 128 ∷ 128 ∷ 128 ∷ 140 ∷ 140 ∷ 128 ∷ 128 ∷ 140 ∷ 140 ∷ 140 ∷ 128 ∷ 140 ∷ 140 ∷ 140 ∷ 141 ∷ []
+
 abbrev pub spots : List ℕ
 spots = 128 ∷ 128 ∷ 140 ∷ 128 ∷ 128 ∷ 140 ∷ 140 ∷ 128 ∷ 140 ∷ 128 ∷ 128 ∷ 128 ∷ 128 ∷ 128 ∷ 128 ∷ 140 ∷ []
 
@@ -30,24 +32,24 @@ with l7 original reach texture = case_of 4 list 74 (sample_neighbours l7) origin
 
 -- two cases that are covered: an edge, and spots with a texture that has them
 abbrev pub edged : Case
-edged = with 81 wedge 1 []
+edged = with 81 edge 1 []
 
 abbrev pub spotted : Case
 spotted = with 81 spots 2 spots
 
 -- and two that are not: runs that both change by 70 and end on 80 and 170, and a list of one pattern
 abbrev pub tied : Case
-tied = with 80 wedge 1 []
+tied = with 80 edge 1 []
 
 abbrev pub single : Case
-single = case_of 4 (0xFFF0 ∷ []) 1 (sample_neighbours 81) wedge sample_table 0 []
+single = case_of 4 (0xFFF0 ∷ []) 1 (sample_neighbours 81) edge sample_table 0 []
 
 -- the same with spots, and with a reach of 2
 abbrev pub tied_spots : Case
 tied_spots = with 80 spots 1 []
 
 abbrev pub alone : Case
-alone = case_of 4 (0xFFF0 ∷ []) 1 (sample_neighbours 81) wedge sample_table 2 []
+alone = case_of 4 (0xFFF0 ∷ []) 1 (sample_neighbours 81) edge sample_table 2 []
 
 abbrev pub cases : List Case
 cases = edged ∷ spotted ∷ tied ∷ single ∷ []
