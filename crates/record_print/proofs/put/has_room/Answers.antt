@@ -5,18 +5,14 @@ use mathlib.Core.Bool.{Bool, true, false}
 use native.Mathlib.Omega.{arith}
 use borrow.Author.Tests.{leb-true, leb-false, le-leb, lt-leb}
 use lib.Dec.{leb}
-use Rattle.record_print.proofs.put.has_room.Statement.{statement}
-use Rattle.record_print.proofs.put.has_room.Tie as tie
+use Rattle.record_print.proofs.put.has_room.Goals as goal
 
 left : (length at more : ℕ) (b : Bool) → at ≤ length → leb more (length - at) ≡ b → b ≡ leb (at + more) length
 left length at more true h e = sym (le-leb (at + more) length (omega (arith, leb-true more (length - at) e)))
 left length at more false h e = sym (lt-leb (at + more) length (omega (arith, leb-false more (length - at) e)))
 
-returns : tie.Need-returns
-returns c = let a = c.before.args in sym (lt-leb (a.at + a.more) a.length (omega arith))
+pub returns-then-length-at : goal.returns-then-length-at
+returns-then-length-at c = let a = c.args in sym (lt-leb (a.at + a.more) a.length (omega arith))
 
-returns-2 : tie.Need-returns-2
-returns-2 c = let a = c.before.args in left a.length a.at a.more _ c.if1.false refl
-
-pub has-room-spec : {M : Type 1} → statement M
-has-room-spec = tie.close (tie.spec returns returns-2)
+pub returns : goal.returns
+returns c = let a = c.args in left a.length a.at a.more _ c.if-length-at.false refl
