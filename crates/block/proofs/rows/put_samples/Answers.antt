@@ -24,28 +24,8 @@ inside c =
     let k = c.loop-k.k in
     (positive n k c.loop-k-test.true, column-lt n k c.loop-k-test.true, row_lt n k c.loop-k-test.true)
 
--- ?? unknown goal
--- div-samples : tie.Need-nonzero-div-samples invariant-loop decreases-loop
--- div-samples c = (inside c).0
-
--- ?? unknown goal
--- rem-samples : tie.Need-nonzero-rem-samples invariant-loop decreases-loop
--- rem-samples c = (inside c).0
-
 pub offset_bounds-b-k : goal.offset_bounds-b-k
 offset_bounds-b-k c = omega (arith, inside c)
-
--- ?? unknown goal
--- index-1-samples : tie.Need-bounds-1-samples invariant-loop decreases-loop
--- index-1-samples c = omega (arith, inside c)
-
--- ?? unknown goal
--- index-2-samples : tie.Need-bounds-2-samples invariant-loop decreases-loop
--- index-2-samples c = omega (arith, inside c)
-
--- ?? unknown goal
--- add-k : tie.Need-overflow-add-k invariant-loop decreases-loop
--- add-k c = omega (arith, square_le {m = capacity} c.before.before.before.requires.0)
 
 pub loop-k-preserved : goal.loop-k-preserved
 loop-k-preserved c =
@@ -58,10 +38,6 @@ loop-k-preserved c =
       simp length-set i.2,
       stored (λ j. sample b (j % n) (j / n)) 0 c.loop-k.samples k (sample b (k % n) (k / n)) (omega arith) refl i.3,
     )
-
--- ?? unknown goal
--- same_length : tie.Need-same-length invariant-loop decreases-loop
--- same_length c = omega arith
 
 pub returns : goal.returns
 unfolding samples_of

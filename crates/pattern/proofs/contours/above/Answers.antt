@@ -27,10 +27,6 @@ bounds-texture-from c = inside (goal.at.bounds-texture-from c).In-loop-i
 pub overflow_add-w : goal.overflow_add-w
 overflow_add-w c = omega (arith, room-above _ c.loop-i.i (omega arith) c.loop-i.invariant.1)
 
--- ?? unknown goal
--- add-i : tie.Need-overflow-add-i invariant-loop decreases-loop
--- add-i c = omega arith
-
 pub loop-i-preserved : goal.loop-i-preserved
 loop-i-preserved c =
     let a = c.args in

@@ -76,29 +76,29 @@ bounds-latest-m c = omega (arith, c.marks-m.ensures.1)
 
 pub loop-k-init : goal.loop-k-init
 loop-k-init c =
-    (refl, passed_first _ (omega (arith, c.marks-m.ensures.1)) c.marks-m.ensures.0 c.next.invariant.1.chain)
+    passed_first _ (omega (arith, c.marks-m.ensures.1)) c.marks-m.ensures.0 c.next.invariant.1.chain
 
 pub is_at-requires : goal.is_at-requires
 is_at-requires c =
     let k = c.loop-k.k in
-    (fits (goal.at.is_at-requires c).Else-e-s (k - 1) (omega (arith, c.loop-k.invariant.1.within)), small (goal.at.is_at-requires c).After-candidate_of-p)
+    (fits (goal.at.is_at-requires c).Else-e-s (k - 1) (omega (arith, c.loop-k.invariant.within)), small (goal.at.is_at-requires c).After-candidate_of-p)
 
 pub offset_bounds-earlier-k : goal.offset_bounds-earlier-k
-offset_bounds-earlier-k c = omega (arith, c.loop-k.invariant.1.within, few (goal.at.offset_bounds-earlier-k c).Else-e-s)
+offset_bounds-earlier-k c = omega (arith, c.loop-k.invariant.within, few (goal.at.offset_bounds-earlier-k c).Else-e-s)
 
 pub bounds-earlier-k : goal.bounds-earlier-k
-bounds-earlier-k c = omega (arith, c.loop-k.invariant.1.within, few (goal.at.bounds-earlier-k c).Else-e-s)
+bounds-earlier-k c = omega (arith, c.loop-k.invariant.within, few (goal.at.bounds-earlier-k c).Else-e-s)
 
 pub loop-k-smaller : goal.loop-k-smaller
 loop-k-smaller c =
     let k = c.loop-k.k in
-    let h : k - 1 < c.next.count = omega (arith, c.loop-k.invariant.1.within) in
+    let h : k - 1 < c.next.count = omega (arith, c.loop-k.invariant.within) in
     omega (arith, (c.next.invariant.1.chain.links (k - 1) h).within)
 
 pub loop-k-preserved : goal.loop-k-preserved
 loop-k-preserved c =
     let k = c.loop-k.k in
-    (c.loop-k.invariant.0, passed-more (k - 1) (omega arith) (eqb-false _ _ (sym c.is_at.ensures ∙ c.if-is_at.false)) c.next.invariant.1.chain c.loop-k.invariant.1)
+    passed-more (k - 1) (omega arith) (eqb-false _ _ (sym c.is_at.ensures ∙ c.if-is_at.false)) c.next.invariant.1.chain c.loop-k.invariant
 
 pub put-requires : goal.put-requires
 put-requires c =
@@ -136,8 +136,8 @@ next-preserved c = (
   omega arith,
   grown-kept _ _ _ _ _ _ _ _ c.if-e-s.false c.candidate_of-p.ensures c.next.invariant.1
       (λ z. c.if-m-eq0.false (c.marks-m.ensures.0 ∙ ap ones z ∙ ones-zero))
-      (λ j h. c.loop-k.invariant.1.fresh j (omega arith) h) (fits (goal.at.next-preserved c).Else-e-s c.next.count (omega arith)) (few (goal.at.next-preserved c).Else-e-s) (marked (goal.at.next-preserved c).After-list-1) c.marks-m.ensures.0
-      c.loop-k.invariant.0 c.put.ensures,
+      (λ j h. c.loop-k.invariant.fresh j (omega arith) h) (fits (goal.at.next-preserved c).Else-e-s c.next.count (omega arith)) (few (goal.at.next-preserved c).Else-e-s) (marked (goal.at.next-preserved c).After-list-1) c.marks-m.ensures.0
+      refl c.put.ensures,
 )
 
 -- a candidate that is dropped: it has no mark, or stands in the list
@@ -151,8 +151,8 @@ pub next-preserved-then-is_at : goal.next-preserved-then-is_at
 next-preserved-then-is_at c =
     let k = c.loop-k.k in (
       omega arith,
-      grown-held _ _ _ _ _ _ _ _ c.if-e-s.false c.candidate_of-p.ensures c.next.invariant.1 (k - 1) (omega (arith, c.loop-k.invariant.1.within))
-          (eqb-true _ _ (sym c.is_at.ensures ∙ c.if-is_at.true)) c.loop-k.invariant.0,
+      grown-held _ _ _ _ _ _ _ _ c.if-e-s.false c.candidate_of-p.ensures c.next.invariant.1 (k - 1) (omega (arith, c.loop-k.invariant.within))
+          (eqb-true _ _ (sym c.is_at.ensures ∙ c.if-is_at.true)) refl,
     )
 
 pub loop-s-preserved : goal.loop-s-preserved

@@ -8,11 +8,9 @@ use Rattle.wedgelet.proofs.Chain.{Passed}
 use Rattle.wedgelet.proofs.Front.{Grown}
 use Rattle.wedgelet.proofs.list.fill.Given as goal
 
--- ?? params ['n', 'list', 'last', 'latest', 'earlier', 'count', 's', 'e₀', 'p', 'm', 'k₀', 'e', 'k'] vs ['l.n', 'l.list', 'l.last', 'l.latest', 'l.earlier', 'l.count', 'l.s', 'l.e', 'l.p', 'l.m', 'l.initial.k', 'l.k']
 abbrev pub invariant-loop-k : goal.invariant-loop-k
-invariant-loop-k l = (l.e ≡ l.e) × Passed (pattern_at l.n l.list) l.count (pattern_number l.p) l.k
+invariant-loop-k l = Passed (pattern_at l.n l.list) l.count (pattern_number l.p) l.k
 
--- ?? params ['n', 'list', 'last', 'latest', 'earlier', 'count', 's', 'e₀', 'p', 'm', 'k₀', 'e', 'k'] vs ['l.n', 'l.list', 'l.last', 'l.latest', 'l.earlier', 'l.count', 'l.s', 'l.e', 'l.p', 'l.m', 'l.initial.k', 'l.k']
 abbrev pub decreases-loop-k : goal.decreases-loop-k
 decreases-loop-k l = l.k
 
