@@ -2,15 +2,29 @@
 // blocks of 4 or 16 where the next byte is 4 or 6, else of 8. It prints the side and the number of records written.
 #![tactic(auto)]
 
-use libc::{STDIN_FILENO, STDOUT_FILENO};
 use sheet::{Composed, MOST_BLOCKS, MOST_SAMPLES, Made, Sheet};
+use std::io;
+use std::io::Read;
 use wedgelet::Listed;
 
+// Reads until the slice is full or the input ends.
+fn read_full(input: &mut impl Read, buf: &mut [u8]) -> io::Result<()> {
+    let mut done = 0;
+    while done < buf.len() {
+        let read = input.read(&mut buf[done..])?;
+        if read == 0 {
+            break;
+        }
+        done += read;
+    }
+    Ok(())
+}
+
 // The first two bytes of standard input; 0 for those that it does not have.
-fn asked() -> [u8; 2] {
+fn asked(rt: &impl Input) -> io::Result<[u8; 2]> {
     let mut bytes = [0u8; 2];
-    io::read_full(STDIN_FILENO, &mut bytes);
-    bytes
+    read_full(&mut rt.reader(), &mut bytes)?;
+    Ok(bytes)
 }
 
 // The side that a byte asks for.
@@ -102,12 +116,10 @@ fn written(n: u32, side: u32, area: usize) -> usize {
     }
 }
 
-fn main() {
-    let bytes = asked();
+fn main(rt: HostRuntime) -> io::Result<()> {
+    let bytes = asked(&rt)?;
     let side = side(bytes[0]);
     let area = if side == 128 { MOST_SAMPLES } else { 4096 };
-    io::print_decimal(STDOUT_FILENO, side as u64);
-    io::write_all(STDOUT_FILENO, b" ");
-    io::print_decimal(STDOUT_FILENO, written(size(bytes[1]), side, area) as u64);
-    io::write_all(STDOUT_FILENO, b"\n");
+    let count = written(size(bytes[1]), side, area);
+    println!(rt; "{side} {count}")
 }

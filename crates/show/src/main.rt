@@ -1,19 +1,35 @@
 // Prints the sheet of the record file on standard input, or its refusal (document 01, "House file").
 #![tactic(auto)]
 
-use libc::{STDIN_FILENO, STDOUT_FILENO};
+ghost use Rattle.std.specs.Prelude.{◌≤◌, length, IfOk};
+
 use show_text::{FILE_BYTES, Shown, TEXT_BYTES};
+use std::io;
+use std::io::Read;
+
+// Reads until the slice is full or the input ends; the number of bytes read.
+fn read_full(input: &mut impl Read, buf: &mut [u8]) -> io::Result<usize>
+    ensures { IfOk result (λ n. n ≤ length buf.new) }
+{
+    let mut done = 0;
+    while done < buf.len() {
+        let read = input.read(&mut buf[done..])?;
+        if read == 0 {
+            break;
+        }
+        done += read;
+    }
+    Ok(done)
+}
 
 // Reads as many bytes as can change what is shown (`first-bytes` in crates/show_text/proofs/FirstBytes.antt), and writes what is shown.
-fn main() {
+fn main(rt: HostRuntime) -> io::Result<()> {
     let mut file = [0u8; FILE_BYTES];
-    let read = io::read_full(STDIN_FILENO, &mut file);
+    let read = read_full(&mut rt.reader(), &mut file)?;
     let mut text = [0u8; TEXT_BYTES];
     let shown = show_text::show_text(&file[..read], &mut text);
     match shown {
-        Shown::Length(length) => {
-            io::write_all(STDOUT_FILENO, &text[..length]);
-        }
-        Shown::Refused(_) => {}
+        Shown::Length(length) => rt.write_all(&text[..length]),
+        Shown::Refused(_) => Ok(()),
     }
 }

@@ -10,8 +10,8 @@ mod patterns;
 mod reader;
 mod sheets;
 
-use libc::STDIN_FILENO;
 use reader::{FIELDS, TEXT};
+use std::io;
 use wedgelet::LIST_WORDS;
 
 // One sample more than the greatest sheet and the greatest block have, than a block has neighbours, and some values more than a table has.
@@ -21,8 +21,9 @@ const NEIGHBOURS: usize = pattern::NEIGHBOURS + 1;
 
 const VALUES: usize = 300;
 
-// Makes the call whose word has these letters first and third, and prints its answer; whether it was written.
+// Makes the call whose word has these letters first and third, and prints its answer; whether there is such a call.
 fn call(
+    rt: &impl Print,
     letters: u64,
     f: &[u64; FIELDS],
     list: &mut [u64],
@@ -31,24 +32,25 @@ fn call(
     table: &[u8],
     texture: &[u8],
     original: &[u8],
-) -> bool {
+) -> io::Result<bool> {
     match letters {
-        0x6964 => patterns::index(f, table),
-        0x6D72 => patterns::marks(f),
-        0x636E => patterns::contour(f, texture),
-        0x7764 => patterns::wedgelets(f, list),
-        0x7364 => blocks::sides(f, border),
-        0x7065 => blocks::predict(f, border, table, samples),
-        0x636F => blocks::choose(f, list, border, original, table, texture),
-        0x6E77 => sheets::new(f),
-        0x7061 => sheets::place(f, samples, list, table, texture),
-        0x636D => sheets::compose(f, samples, original, list, table, texture),
-        _ => false,
+        0x6964 => patterns::index(rt, f, table)?,
+        0x6D72 => patterns::marks(rt, f)?,
+        0x636E => patterns::contour(rt, f, texture)?,
+        0x7764 => patterns::wedgelets(rt, f, list)?,
+        0x7364 => blocks::sides(rt, f, border)?,
+        0x7065 => blocks::predict(rt, f, border, table, samples)?,
+        0x636F => blocks::choose(rt, f, list, border, original, table, texture)?,
+        0x6E77 => sheets::new(rt, f)?,
+        0x7061 => sheets::place(rt, f, samples, list, table, texture)?,
+        0x636D => sheets::compose(rt, f, samples, original, list, table, texture)?,
+        _ => return Ok(false),
     }
+    Ok(true)
 }
 
-// Makes the slices of a case, and the call; whether its answer was written.
-fn answer(letters: u64, f: &[u64; FIELDS]) -> bool {
+// Makes the slices of a case, and the call; whether there is such a call.
+fn answer(rt: &impl Print, letters: u64, f: &[u64; FIELDS]) -> io::Result<bool> {
     let mut words = [0u64; LIST_WORDS];
     let mut lent = [0u8; SAMPLES];
     let mut neighbours = [0u8; NEIGHBOURS];
@@ -61,35 +63,38 @@ fn answer(letters: u64, f: &[u64; FIELDS]) -> bool {
     let table = reader::bytes(f, b't', &mut values);
     let texture = reader::bytes(f, b'x', &mut textures);
     let original = reader::bytes(f, b'o', &mut originals);
-    call(letters, f, list, samples, border, table, texture, original)
+    call(
+        rt, letters, f, list, samples, border, table, texture, original,
+    )
 }
 
 // Answers the case of a line; the place where the line ends, or the end of the text where it is no case.
-fn case(text: &[u8; TEXT], line: usize) -> usize
+fn case(rt: &impl Print, text: &[u8; TEXT], line: usize) -> io::Result<usize>
     requires { line < 524288 }
 {
     let mut space = [0u64; FIELDS];
     let end = reader::fields(text, line, &mut space);
-    output::text(reader::word(text, line));
-    if answer(reader::letters(text, line), &space) {
-        return end;
+    output::text(rt, reader::word(text, line))?;
+    if answer(rt, reader::letters(text, line), &space)? {
+        return Ok(end);
     }
-    TEXT
+    Ok(TEXT)
 }
 
 // Answers the cases of a text.
-fn cases(text: &[u8; TEXT]) {
+fn cases(rt: &impl Print, text: &[u8; TEXT]) -> io::Result<()> {
     let mut at = 0;
     while at < TEXT {
         if text[at] == 0 {
-            return;
+            return Ok(());
         }
-        at = reader::next_line(text, at, case(text, at));
+        at = reader::next_line(rt, text, at, case(rt, text, at)?)?;
     }
+    Ok(())
 }
 
-fn main() {
+fn main(rt: HostRuntime) -> io::Result<()> {
     let mut text = [0u8; TEXT];
-    io::read_full(STDIN_FILENO, &mut text);
-    cases(&text);
+    reader::read_text(&mut rt.reader(), &mut text)?;
+    cases(&rt, &text)
 }

@@ -1,40 +1,32 @@
-// The fields of the answers, written to standard output. What prints answers whether its last bytes were written.
-use libc::STDOUT_FILENO;
+// The fields of the answers, as they are printed.
+use std::io;
 
 // As many records as the greatest sheet has blocks.
 pub(crate) const RECORDS: usize = 1024;
 
 // Bytes as they are.
-pub(crate) fn text(bytes: &[u8]) -> bool {
-    io::write_all(STDOUT_FILENO, bytes)
+pub(crate) fn text(rt: &impl Print, bytes: &[u8]) -> io::Result<()> {
+    rt.write_all(bytes)
 }
 
 // A space and a decimal number.
-pub(crate) fn number(n: u64) -> bool {
-    text(b" ");
-    io::print_decimal(STDOUT_FILENO, n)
+pub(crate) fn number(rt: &impl Print, n: u64) -> io::Result<()> {
+    print!(rt; " {n}")
 }
 
 // A space, an x and the hexadecimal digits of a word.
-pub(crate) fn word(w: u64) -> bool {
-    text(b" x");
-    io::print_hex(STDOUT_FILENO, w, 1)
+pub(crate) fn word(rt: &impl Print, w: u64) -> io::Result<()> {
+    print!(rt; " x{w:x}")
 }
 
 // The field `refused` and the refusal number.
-pub(crate) fn refused(r: u8) -> bool {
-    text(b" refused");
-    number(r as u64)
+pub(crate) fn refused(rt: &impl Print, r: u8) -> io::Result<()> {
+    print!(rt; " refused {r}")
 }
 
 // A space and a signed number.
-pub(crate) fn signed(z: i32) -> bool {
-    if z < 0 {
-        text(b" -");
-    } else {
-        text(b" ");
-    }
-    io::print_decimal(STDOUT_FILENO, depth_table::magnitude(z) as u64)
+pub(crate) fn signed(rt: &impl Print, z: i32) -> io::Result<()> {
+    print!(rt; " {z}")
 }
 
 // The checksum with one more number.
@@ -43,69 +35,73 @@ fn step(c: u64, number: u64) -> u64 {
 }
 
 // The field `checksum` and a checksum.
-fn checksum(c: u64) -> bool {
-    text(b" checksum");
-    number(c)
+fn checksum(rt: &impl Print, c: u64) -> io::Result<()> {
+    print!(rt; " checksum {c}")
 }
 
-// A sample, where it is shown.
-fn sample(s: u8, shown: bool) -> u64 {
+// A sample; prints it where it is shown.
+fn sample(rt: &impl Print, s: u8, shown: bool) -> io::Result<u64> {
     if shown {
-        number(s as u64);
+        number(rt, s as u64)?;
     }
-    s as u64
+    Ok(s as u64)
 }
 
 // The samples, where they are shown, and their checksum.
-pub(crate) fn samples(s: &[u8], shown: bool) -> bool {
+pub(crate) fn samples(rt: &impl Print, s: &[u8], shown: bool) -> io::Result<()> {
     let mut c = 0;
     for i in 0..s.len() {
-        c = step(c, sample(s[i], shown));
+        c = step(c, sample(rt, s[i], shown)?);
     }
-    checksum(c)
+    checksum(rt, c)
 }
 
 // The checksum with a word, its low half first; prints the word where it is shown.
-fn with_word(c: u64, w: u64, shown: bool) -> u64 {
+fn with_word(rt: &impl Print, c: u64, w: u64, shown: bool) -> io::Result<u64> {
     if shown {
-        word(w);
+        word(rt, w)?;
     }
-    step(step(c, w % 4294967296), w / 4294967296)
+    Ok(step(step(c, w % 4294967296), w / 4294967296))
 }
 
 // The words from `first` on below `end`, and the checksum of all.
-pub(crate) fn words(list: &[u64], first: usize, end: usize) -> bool {
+pub(crate) fn words(rt: &impl Print, list: &[u64], first: usize, end: usize) -> io::Result<()> {
     let mut c = 0;
     for i in 0..list.len() {
-        c = with_word(c, list[i], first <= i && i < end);
+        c = with_word(rt, c, list[i], first <= i && i < end)?;
     }
-    checksum(c)
+    checksum(rt, c)
 }
 
 // The checksum with one field of a record more, its sign and its magnitude; prints the field where it is shown.
-fn with_field(c: u64, z: i32, lent: bool, shown: bool) -> u64 {
+fn with_field(rt: &impl Print, c: u64, z: i32, lent: bool, shown: bool) -> io::Result<u64> {
     if !lent {
-        return c;
+        return Ok(c);
     }
     if shown {
-        signed(z);
+        signed(rt, z)?;
     }
-    step(step(c, (z < 0) as u64), depth_table::magnitude(z) as u64)
+    Ok(step(step(c, (z < 0) as u64), depth_table::magnitude(z) as u64))
 }
 
 // The checksum with a record, where it is lent; prints the record where it is shown.
-fn with_record(c: u64, r: [i32; 4], lent: bool, shown: bool) -> u64 {
-    let kind = with_field(c, r[0], lent, shown);
-    let entry = with_field(kind, r[1], lent, shown);
-    let off0 = with_field(entry, r[2], lent, shown);
-    with_field(off0, r[3], lent, shown)
+fn with_record(rt: &impl Print, c: u64, r: [i32; 4], lent: bool, shown: bool) -> io::Result<u64> {
+    let kind = with_field(rt, c, r[0], lent, shown)?;
+    let entry = with_field(rt, kind, r[1], lent, shown)?;
+    let off0 = with_field(rt, entry, r[2], lent, shown)?;
+    with_field(rt, off0, r[3], lent, shown)
 }
 
 // The first records, as many as are shown, and the checksum of those that are lent.
-pub(crate) fn records(r: &[[i32; 4]; RECORDS], lent: usize, shown: usize) -> bool {
+pub(crate) fn records(
+    rt: &impl Print,
+    r: &[[i32; 4]; RECORDS],
+    lent: usize,
+    shown: usize,
+) -> io::Result<()> {
     let mut c = 0;
     for i in 0..RECORDS {
-        c = with_record(c, r[i], i < lent, i < shown);
+        c = with_record(rt, c, r[i], i < lent, i < shown)?;
     }
-    checksum(c)
+    checksum(rt, c)
 }

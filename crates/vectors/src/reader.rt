@@ -1,7 +1,9 @@
 // Reading a case: the numbers of its line, and the slices that they give. What is missing in a line is read as 0 or as an empty slice.
-ghost use Rattle.std.specs.Prelude.{◌<◌, ◌≤◌};
+ghost use Rattle.std.specs.Prelude.{◌<◌, ◌≤◌, IfOk};
 
 use crate::output;
+use std::io;
+use std::io::Read;
 
 // As many bytes of standard input are read.
 pub(crate) const TEXT: usize = 524288;
@@ -20,6 +22,19 @@ struct Field {
     at: usize,
 }
 
+// Reads the text until it is full or the input ends.
+pub(crate) fn read_text(input: &mut impl Read, text: &mut [u8; TEXT]) -> io::Result<()> {
+    let mut done = 0;
+    while done < TEXT {
+        let read = input.read(&mut text[done..])?;
+        if read == 0 {
+            break;
+        }
+        done += read;
+    }
+    Ok(())
+}
+
 // The byte at a place, 0 past the text.
 fn byte_at(text: &[u8; TEXT], at: usize) -> u8 {
     if at < TEXT { text[at] } else { 0 }
@@ -33,20 +48,25 @@ pub(crate) fn letters(text: &[u8; TEXT], line: usize) -> u64
 }
 
 // The place of the line after the one from `line` to `end`; the end of the text, after a message, where the line does not end there.
-pub(crate) fn next_line(text: &[u8; TEXT], line: usize, end: usize) -> usize
+pub(crate) fn next_line(
+    rt: &impl Print,
+    text: &[u8; TEXT],
+    line: usize,
+    end: usize,
+) -> io::Result<usize>
     requires { line < 524288 }
-    ensures { line < result }
+    ensures { IfOk result (λ next. line < next) }
 {
-    output::text(b"\n");
+    output::text(rt, b"\n")?;
     if line <= end {
         if end < TEXT {
             if text[end] == b'\n' {
-                return end + 1;
+                return Ok(end + 1);
             }
         }
     }
-    output::text(b"bad case\n");
-    TEXT
+    output::text(rt, b"bad case\n")?;
+    Ok(TEXT)
 }
 
 // The value of a digit in base 36, 36 for a byte that is none.

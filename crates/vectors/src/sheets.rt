@@ -1,4 +1,4 @@
-// The calls on sheets: an empty state, records placed in turn, and a sheet composed. Each answers whether its answer was written.
+// The calls on sheets: an empty state, records placed in turn, and a sheet composed. Each prints its answer.
 ghost use Rattle.std.specs.Prelude.{◌<◌};
 
 use crate::output::RECORDS;
@@ -6,30 +6,32 @@ use crate::reader::FIELDS;
 use crate::{output, reader};
 use record::Record;
 use sheet::{Composed, Made, Placed, Sheet};
+use std::io;
 
 // The numbers of a state.
-fn state(s: Sheet) -> bool {
-    output::number(s.n as u64);
-    output::number(s.width as u64);
-    output::number(s.height as u64);
-    output::number(s.placed as u64)
+fn state(rt: &impl Print, s: Sheet) -> io::Result<()> {
+    output::number(rt, s.n as u64)?;
+    output::number(rt, s.width as u64)?;
+    output::number(rt, s.height as u64)?;
+    output::number(rt, s.placed as u64)
 }
 
 // `new N WIDTH HEIGHT`: the state of an empty sheet.
-pub(crate) fn new(f: &[u64; FIELDS]) -> bool {
+pub(crate) fn new(rt: &impl Print, f: &[u64; FIELDS]) -> io::Result<()> {
     let made = Sheet::new(
         reader::short(f, 0),
         reader::short(f, 1),
         reader::short(f, 2),
     );
     match made {
-        Made::New(s) => state(s),
-        Made::Refused(r) => output::refused(r),
+        Made::New(s) => state(rt, s),
+        Made::Refused(r) => output::refused(rt, r),
     }
 }
 
 // Places the record of the four numbers from a place on; the state after it, the same one where it is refused.
 fn place_one(
+    rt: &impl Print,
     f: &[u64; FIELDS],
     at: usize,
     s: Sheet,
@@ -37,7 +39,7 @@ fn place_one(
     list: &[u64],
     table: &[u8],
     texture: &[u8],
-) -> Sheet
+) -> io::Result<Sheet>
     requires { at < 10000 }
 {
     let record = Record {
@@ -49,22 +51,23 @@ fn place_one(
     let count = reader::number(f, 4) as usize;
     let placed = s.place(samples, list, count, table, texture, record);
     match placed {
-        Placed::Next(next) => next,
+        Placed::Next(next) => Ok(next),
         Placed::Refused(r) => {
-            output::refused(r);
-            s
+            output::refused(rt, r)?;
+            Ok(s)
         }
     }
 }
 
 // The state of a case after its records are placed in turn.
 fn placed(
+    rt: &impl Print,
     f: &[u64; FIELDS],
     samples: &mut [u8],
     list: &[u64],
     table: &[u8],
     texture: &[u8],
-) -> Sheet {
+) -> io::Result<Sheet> {
     let at = reader::place(f, b'r');
     let mut s = Sheet {
         n: reader::short(f, 0),
@@ -73,21 +76,23 @@ fn placed(
         placed: reader::short(f, 3),
     };
     for i in 0..reader::short(f, at) % 1025 {
-        s = place_one(f, at + 1 + 4 * i as usize, s, samples, list, table, texture);
+        let place = at + 1 + 4 * i as usize;
+        s = place_one(rt, f, place, s, samples, list, table, texture)?;
     }
-    s
+    Ok(s)
 }
 
 // `place N WIDTH HEIGHT PLACED COUNT SHOWN`: the state after the records placed in turn, and the samples.
 pub(crate) fn place(
+    rt: &impl Print,
     f: &[u64; FIELDS],
     samples: &mut [u8],
     list: &[u64],
     table: &[u8],
     texture: &[u8],
-) -> bool {
-    state(placed(f, samples, list, table, texture));
-    output::samples(samples, reader::number(f, 5) == 1)
+) -> io::Result<()> {
+    state(rt, placed(rt, f, samples, list, table, texture)?)?;
+    output::samples(rt, samples, reader::number(f, 5) == 1)
 }
 
 // The first k records of a slice, or all of them where there are fewer.
@@ -99,16 +104,16 @@ fn first(s: &mut [[i32; 4]], k: usize) -> &mut [[i32; 4]] {
 }
 
 // The state and the number of records written, or the refusal; how many records are shown.
-fn finished(composed: Composed, shown: bool) -> usize {
+fn finished(rt: &impl Print, composed: Composed, shown: bool) -> io::Result<usize> {
     match composed {
         Composed::Finished(s, written) => {
-            state(s);
-            output::number(written as u64);
-            if shown { written } else { 0 }
+            state(rt, s)?;
+            output::number(rt, written as u64)?;
+            Ok(if shown { written } else { 0 })
         }
         Composed::Refused(r) => {
-            output::refused(r);
-            0
+            output::refused(rt, r)?;
+            Ok(0)
         }
     }
 }
@@ -116,19 +121,20 @@ fn finished(composed: Composed, shown: bool) -> usize {
 // `compose N WIDTH HEIGHT PLACED COUNT SHOWN REACH LENT`: the records are placed in turn, then the sheet is composed, with so many records
 // lent, which are 9 8 7 -6 before: the state, the records and the samples.
 pub(crate) fn compose(
+    rt: &impl Print,
     f: &[u64; FIELDS],
     samples: &mut [u8],
     original: &[u8],
     list: &[u64],
     table: &[u8],
     texture: &[u8],
-) -> bool {
+) -> io::Result<()> {
     let mut records = [[9, 8, 7, -6]; RECORDS];
     let count = reader::number(f, 4) as usize;
     let shown = reader::number(f, 5) == 1;
     let reach = reader::short(f, 6);
     let lent = reader::number(f, 7) as usize;
-    let s = placed(f, samples, list, table, texture);
+    let s = placed(rt, f, samples, list, table, texture)?;
     let composed = s.compose(
         samples,
         original,
@@ -139,7 +145,7 @@ pub(crate) fn compose(
         texture,
         first(&mut records, lent),
     );
-    let written = finished(composed, shown);
-    output::records(&records, lent, written);
-    output::samples(samples, shown)
+    let written = finished(rt, composed, shown)?;
+    output::records(rt, &records, lent, written)?;
+    output::samples(rt, samples, shown)
 }

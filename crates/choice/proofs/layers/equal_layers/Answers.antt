@@ -1,0 +1,21 @@
+-- `equal_layers` meets its contract: after k samples the layers hold the first k.
+use native.Mathlib.Omega.{arith}
+use mathlib.Core.Path.{refl}
+use Rattle.choice.proofs.BuildLaws.{equal-none, equal-room, equal-more}
+use Rattle.choice.proofs.layers.equal_layers.Goals as goal
+
+pub loop-k-init : goal.loop-k-init
+loop-k-init c = (omega arith, equal-none c.args.samples.now)
+
+pub overflow_add-layers : goal.overflow_add-layers
+overflow_add-layers c =
+    let a = c.args in
+    let l = c.loop-k in
+    record { fits = equal-room a.samples.now l.k l.layers (omega arith) l.invariant.1 c.wide-v.result c.wide-v.ensures.1 }
+
+pub loop-k-preserved : goal.loop-k-preserved
+loop-k-preserved c =
+    let a = c.args in
+    let l = c.loop-k in
+    (omega arith,
+    equal-more a.samples.now l.k l.layers (omega arith) l.invariant.1 c.wide-v.result c.wide-v.ensures.1 _ c.wide-v.ensures.0 refl)

@@ -1,0 +1,12 @@
+-- `put_sheet` meets its contract: the sample rows after the lines before them.
+use Rattle.show_text.proofs.PrintLaws.{rows-room, sheet-written}
+use Rattle.show_text.proofs.printing.put_sheet.Goals as goal
+
+pub put_rows-end-requires : goal.put_rows-end-requires
+put_rows-end-requires c =
+    let f = c.requires in
+    let r = rows-room _ _ f.width f.height f.space c.put_sides-sides.ensures in
+    record { height_bound = (r.0, f.held); height_in_bounds = r.1 }
+
+pub returns : goal.returns
+returns c = sheet-written _ _ _ c.put_sides-sides.ensures c.put_rows-end.ensures
