@@ -1,4 +1,4 @@
-// The calls for C: include/depth_bench.h has their declarations.
+// The calls that `depth_bench_c` exports for C: include/depth_bench.h has their declarations.
 #![tactic(auto)]
 
 ghost use Rattle.std.specs.Prelude.{◌≡◌, true, ◌*◌, eqb, ltb, length, get_or};
@@ -57,8 +57,7 @@ fn wide(number: u8) -> u32
 
 // Writes the predicted block to the lent one, as `prediction::predict` does. Below n = 16 the pattern is word 0, and words 1 to 3 are not
 // read.
-#[unsafe(no_mangle)]
-pub extern "C" fn depth_bench_predict(
+pub fn depth_bench_predict(
     n: usize,
     word0: u64,
     word1: u64,
@@ -142,8 +141,7 @@ fn built_refusal(
 
 // The record of least cost, with the wedgelet list for n, as `choice::choose` finds it. What is refused is refused before the list is
 // built.
-#[unsafe(no_mangle)]
-pub extern "C" fn depth_bench_choose(
+pub fn depth_bench_choose(
     n: usize,
     border: &[u8],
     original: &[u8],
@@ -238,8 +236,7 @@ fn contour_pattern(n: usize, entry: u32, texture: &[u8]) -> Pattern
 }
 
 // The pattern of a record: the entry of the wedgelet list for n, or the contour of the texture, as `depth_bench_choose` means them.
-#[unsafe(no_mangle)]
-pub extern "C" fn depth_bench_pattern_of(n: usize, kind: u32, entry: u32, texture: &[u8]) -> Pattern
+pub fn depth_bench_pattern_of(n: usize, kind: u32, entry: u32, texture: &[u8]) -> Pattern
     ensures { result ≡ pattern_struct (pattern_answer n kind entry texture.now) }
 {
     let refusal = texture_refusal(n, texture.len());

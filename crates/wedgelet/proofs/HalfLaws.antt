@@ -11,12 +11,13 @@ use lib.Dec.{ltb}
 use lib.Pow.{pow_pos, pow_mono, shl_exact}
 use Rattle.arith.specs.Bits.{bits}
 use Rattle.arith.proofs.BitLaws.{shifted_one, bits-lt, bits-ext, bits-append, bits_none, bits-all, run-front, run-back}
+use Rattle.pattern.specs.Size.{greatest_size}
 use Rattle.pattern.specs.Pattern.{pattern}
 use Rattle.pattern.specs.Words.{four_words}
 use Rattle.pattern.proofs.WordLaws.{four_same, four-bits}
 use Rattle.wedgelet.specs.declared.half.Half.{Half}
 use Rattle.wedgelet.specs.Wedgelet.{beside}
-use Rattle.wedgelet.specs.Half.{in_half, flip}
+use Rattle.wedgelet.specs.Half.{in_half, flip, Small}
 use Rattle.wedgelet.proofs.LineLaws.{beside-products}
 
 -- ---- sums that are stepped
@@ -214,3 +215,34 @@ module _ (xs ys xe ye : ℕ) where
       ∙ ap not (beside-products xs ys xe ye x y)
       ∙ not-below (ys * xe + ye * x + y * xs) (xs * ye + xe * y + x * ys)
       ∙ ap₂ ltb l r)
+
+-- a product of two coordinates is at most 225
+product-small : (a b : ℕ) → a < greatest_size → b < greatest_size → a * b ≤ 15 * 15
+product-small a b h l = mul-le-mul {n₂ = 15} {m₂ = 15} (omega arith) (omega arith)
+
+-- the half that does not hold (0,0), and the one that does: both are small, and their marks are those of the line, inverted where it marks (0,0)
+pub half_other_made :
+    (xs ys xe ye : ℕ) → xs < greatest_size → ys < greatest_size → xe < greatest_size → ye < greatest_size → ys * xe < xs * ye
+    → Small (record { low = xs * ye; lcol = ys; lrow = xe; high = ys * xe + 1; hcol = ye; hrow = xs })
+    × ((x y : ℕ)
+    → in_half (record { low = xs * ye; lcol = ys; lrow = xe; high = ys * xe + 1; hcol = ye; hrow = xs }) x y
+    ≡ flip (beside xs ys xe ye 0 0) (beside xs ys xe ye x y))
+half_other_made xs ys xe ye a b c d h =
+    let u = product-small xs ye a d in
+    let v = product-small ys xe b c in (
+      record { low_le = omega arith; lcol_lt = omega arith; lrow_lt = omega arith; high_le = omega arith; hcol_lt = omega arith; hrow_lt = omega arith },
+      λ x y. half-other xs ys xe ye x y h,
+    )
+
+pub half_beside_made :
+    (xs ys xe ye : ℕ) → xs < greatest_size → ys < greatest_size → xe < greatest_size → ye < greatest_size → xs * ye ≤ ys * xe
+    → Small (record { low = ys * xe; lcol = ye; lrow = xs; high = xs * ye; hcol = ys; hrow = xe })
+    × ((x y : ℕ)
+    → in_half (record { low = ys * xe; lcol = ye; lrow = xs; high = xs * ye; hcol = ys; hrow = xe }) x y
+    ≡ flip (beside xs ys xe ye 0 0) (beside xs ys xe ye x y))
+half_beside_made xs ys xe ye a b c d h =
+    let u = product-small xs ye a d in
+    let v = product-small ys xe b c in (
+      record { low_le = omega arith; lcol_lt = omega arith; lrow_lt = omega arith; high_le = omega arith; hcol_lt = omega arith; hrow_lt = omega arith },
+      λ x y. half-beside xs ys xe ye x y h,
+    )

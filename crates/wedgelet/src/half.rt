@@ -22,6 +22,7 @@ pub(crate) struct Half {
 
 // The side of the line from (xs, ys) to (xe, ye) that does not hold (0,0): the samples beside the line, or all others where (0,0) is
 // beside it.
+#[tactic(auto, using(crate::proofs::HalfLaws::half_other_made, crate::proofs::HalfLaws::half_beside_made))]
 pub(crate) fn half_of(xs: usize, ys: usize, xe: usize, ye: usize) -> Half
     requires { (xs < greatest_size) × (ys < greatest_size) × (xe < greatest_size) × (ye < greatest_size) }
     ensures { Small result × ((x y : ℕ) → in_half result x y ≡ flip (beside xs ys xe ye 0 0) (beside xs ys xe ye x y)) }

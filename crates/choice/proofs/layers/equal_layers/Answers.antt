@@ -16,6 +16,7 @@ overflow_add-layers c =
 pub loop-k-preserved : goal.loop-k-preserved
 loop-k-preserved c =
     let a = c.args in
-    let l = c.loop-k in
-    (omega arith,
-    equal-more a.samples.now l.k l.layers (omega arith) l.invariant.1 c.wide-v.result c.wide-v.ensures.1 _ c.wide-v.ensures.0 refl)
+    let l = c.loop-k in (
+      omega arith,
+      equal-more a.samples.now l.k l.layers (omega arith) l.invariant.1 c.wide-v.result c.wide-v.ensures.1 _ c.wide-v.ensures.0 refl,
+    )

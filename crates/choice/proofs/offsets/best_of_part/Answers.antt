@@ -88,16 +88,16 @@ returns c =
     let marks = pattern_number a.part.marks in
     let up : (min (i + a.reach) (length a.table.now - 1) ≤ i) ⊎ (size ≤ twice a.below.now marks a.table.now 1 i) =
     elim c.if-at-last.branch [
-      then-at-last+else-count_below-size x ↦
-        inr (omega (arith, x.if-count_below-size.false, twice-by a.below.now marks a.table.now 1 i x.count_below.ensures.0 above))
-    | else-at-last x ↦ inl (omega (arith, x.if-at-last.false, last))
+      | then-at-last+else-count_below-size x ↦
+          inr (omega (arith, x.if-count_below-size.false, twice-by a.below.now marks a.table.now 1 i x.count_below.ensures.0 above))
+      | else-at-last x ↦ inl (omega (arith, x.if-at-last.false, last))
     ]
     in
     let down : (i ≤ i - a.reach) ⊎ (twice a.below.now marks a.table.now 0 i ≤ size) =
     elim c.if-end-at.branch [
-      then-end-at+else-size-count_below x ↦
-        inr (omega (arith, x.if-size-count_below.false, twice-by a.below.now marks a.table.now 0 i x.count_below-then-end-at.ensures.0 value))
-    | else-end-at x ↦ inl (omega (arith, x.if-end-at.false, end))
+      | then-end-at+else-size-count_below x ↦
+          inr (omega (arith, x.if-size-count_below.false, twice-by a.below.now marks a.table.now 0 i x.count_below-then-end-at.ensures.0 value))
+      | else-end-at x ↦ inl (omega (arith, x.if-end-at.false, end))
     ]
     in (
       here_found _ _ _ _ _ _ c.requires.0 a.table.now a.index.0 a.reach c.requires.2 up down

@@ -119,9 +119,9 @@ loop-p-preserved c =
       omega arith,
       inv.1,
       elim c.if-next-best.branch [
-        then-next-best w ↦ rw (w.at-is, w.best-is) (inr (sides-new C inv.2 next w.if-next-best.true))
-      | else-next-best w ↦
-        rw (w.at-is, w.best-is) (inr (sides-old C inv.2 next (omega (arith, c.best_sides-next.ensures.2)) w.if-next-best.false))
+        | then-next-best w ↦ rw (w.at-is, w.best-is) (inr (sides-new C inv.2 next w.if-next-best.true))
+        | else-next-best w ↦
+            rw (w.at-is, w.best-is) (inr (sides-old C inv.2 next (omega (arith, c.best_sides-next.ensures.2)) w.if-next-best.false))
       ],
       tried-more C c.loop-p.p inv.3 (tried-next g.After-best_sides-next),
     )

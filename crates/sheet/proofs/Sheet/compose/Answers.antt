@@ -50,8 +50,8 @@ returns-then-refusal-ne0 c =
     let m = length a.records.now in
     let h = c.if-refusal-ne0.true in
     let e =
-        compose-kept a.self t (length a.samples.now) m
-        (judged p.After-compose_lengths_ok-lengths) (opening p.After-open_refusal-refusal) h
+    compose-kept a.self t (length a.samples.now) m
+    (judged p.After-compose_lengths_ok-lengths) (opening p.After-open_refusal-refusal) h
     in
     record {
       answered = told-refused a.self a.samples.now t m e h;

@@ -76,11 +76,11 @@ returns c =
     let row = c.next_y-y.ensures in
     let light = c.light_at-light in
     let q =
-        choose-next S (task (goal.at.returns c).Start) a.samples.now column row
-        (near_next S o column row a.samples.now c.neighbours_of-near.ensures)
-        (own-next S o column row a.original.now c.cut_samples-own.result c.cut_samples-own.ensures)
-        (light-next S o column row a.texture.now light.result light.ensures c.lent_part-part.ensures)
-        c.choose_at.ensures.answered
-        c.choose_at.ensures.left
+    choose-next S (task (goal.at.returns c).Start) a.samples.now column row
+    (near_next S o column row a.samples.now c.neighbours_of-near.ensures)
+    (own-next S o column row a.original.now c.cut_samples-own.result c.cut_samples-own.ensures)
+    (light-next S o column row a.texture.now light.result light.ensures c.lent_part-part.ensures)
+    c.choose_at.ensures.answered
+    c.choose_at.ensures.left
     in
     record { answered = q.0; left = q.1 }

@@ -72,10 +72,10 @@ returns c =
     let row = c.next_y-y.ensures in
     let light = c.light_at-light in
     let q =
-        draw-next S o (material (goal.at.returns c).Start) a.samples.now a.r column row
-        (near_next S o column row a.samples.now c.neighbours_of-near.ensures)
-        (light-next S o column row a.texture.now light.result light.ensures c.lent_part-part.ensures)
-        c.draw.ensures.number
-        c.draw.ensures.left
+    draw-next S o (material (goal.at.returns c).Start) a.samples.now a.r column row
+    (near_next S o column row a.samples.now c.neighbours_of-near.ensures)
+    (light-next S o column row a.texture.now light.result light.ensures c.lent_part-part.ensures)
+    c.draw.ensures.number
+    c.draw.ensures.left
     in
     record { number = q.0; left = q.1 }

@@ -40,8 +40,8 @@ returns-then-refusal-ne0 c =
     let a = c.args in
     let p = goal.at.returns-then-refusal-ne0 c in
     let q =
-        state-refused a.asked a.self a.samples.now (material p.Start) a.r
-        (measured p.After-lengths_ok-lengths) (opening p.After-open_refusal-refusal) c.if-refusal-ne0.true
+    state-refused a.asked a.self a.samples.now (material p.Start) a.r
+    (measured p.After-lengths_ok-lengths) (opening p.After-open_refusal-refusal) c.if-refusal-ne0.true
     in
     record { answered = q.0; left = q.1 }
 
@@ -73,8 +73,8 @@ returns-then-number-ne0 c =
     let p = goal.at.returns-then-number-ne0 c in
     let drawn = c.draw_next-number.ensures in
     let q =
-        drawing-refused a.asked a.self a.samples.now (material p.Start) a.r
-        (none p.Else-refusal-ne0) drawn.number drawn.left c.if-number-ne0.true
+    drawing-refused a.asked a.self a.samples.now (material p.Start) a.r
+    (none p.Else-refusal-ne0) drawn.number drawn.left c.if-number-ne0.true
     in
     record { answered = q.0; left = q.1 }
 
@@ -88,7 +88,7 @@ returns c =
     let p = goal.at.returns c in
     let drawn = c.draw_next-number.ensures in
     let q =
-        drawing-done a.asked a.self a.samples.now (material p.Start) a.r
-        (none p.Else-refusal-ne0) drawn.number drawn.left c.if-number-ne0.false refl
+    drawing-done a.asked a.self a.samples.now (material p.Start) a.r
+    (none p.Else-refusal-ne0) drawn.number drawn.left c.if-number-ne0.false refl
     in
     record { answered = q.0; left = q.1 }

@@ -47,10 +47,10 @@ named c =
     let r = c.args.r in
     let C = case (goal.at.Joined-meaning_of c).Start in
     elim c.match-meaning_of.branch [
-      in-Listed w ↦
+      | in-Listed w ↦
           let e = w.in-Listed.ensures in
           (case-named C r e, ap pattern_number w.p-is ∙ case-listed C r e)
-    | in-Contour w ↦
+      | in-Contour w ↦
           let e = w.in-Contour.ensures in
           (case-named C r e, ap pattern_number w.p-is ∙ w.contour_of-p.ensures ∙ case-contour C r e)
     ]
@@ -71,7 +71,7 @@ returns c =
     let d = (goal.at.returns c).Start in
     let p = named (goal.at.returns c).Joined-meaning_of in
     let q =
-        case-drawn (case d) a.r p.0 a.width a.x a.y a.samples.now p.1
-        (to_z-of_z w32 a.r.off0 (fits0 d)) (to_z-of_z w32 a.r.off1 (fits1 d)) c.draw_pattern.ensures
+    case-drawn (case d) a.r p.0 a.width a.x a.y a.samples.now p.1
+    (to_z-of_z w32 a.r.off0 (fits0 d)) (to_z-of_z w32 a.r.off1 (fits1 d)) c.draw_pattern.ensures
     in
     record { number = q.0; left = q.1 }

@@ -14,6 +14,6 @@ neighbours_at-requires c =
 pub returns : goal.returns
 returns c =
     let e =
-        rw (c.top_first-top.ensures, c.left_first-left.ensures, c.top_count-t.ensures, c.left_count-l.ensures) at c.neighbours_at.ensures
+    rw (c.top_first-top.ensures, c.left_first-left.ensures, c.top_count-t.ensures, c.left_count-l.ensures) at c.neighbours_at.ensures
     in
     rw (counted-places c.requires c.args.samples.now) (filled-by greatest_neighbours (4 * c.args.n) (4 * c.args.n) _ e refl)

@@ -17,11 +17,10 @@ loop-r-preserved c =
     let r = c.loop-r.r in
     let s = a.samples.now in
     let row =
-        upto-ext capacity a.n
-        (λ k. get_or s (place a.width a.x (a.y + r) + k) 0) (λ k. get_or s (place a.width (a.x + k) (a.y + r)) 0) 0
-        (λ k l. ap (λ (p : ℕ). get_or s p 0) (omega arith))
-    in
-    (
+    upto-ext capacity a.n
+    (λ k. get_or s (place a.width a.x (a.y + r) + k) 0) (λ k. get_or s (place a.width (a.x + k) (a.y + r)) 0) 0
+    (λ k l. ap (λ (p : ℕ). get_or s p 0) (omega arith))
+    in (
       omega (arith, c.loop-r-test.true),
       fill-by capacity _ _ (replicate capacity 0) c.loop-r.invariant.1 (c.row_at.ensures ∙ row) (omega (arith, c.requires.high)),
     )

@@ -16,21 +16,3 @@ overflow_mul-high c = let a = c.args in omega (arith, product a.xs a.ye (omega a
 
 pub overflow_add-result : goal.overflow_add-result
 overflow_add-result c = let a = c.args in omega (arith, product a.ys a.xe (omega arith) (omega arith))
-
-pub returns-then-low-high : goal.returns-then-low-high
-returns-then-low-high c =
-    let a = c.args in
-    let u = product a.xs a.ye (omega arith) (omega arith) in
-    let v = product a.ys a.xe (omega arith) (omega arith) in (
-      record { low_le = omega arith; lcol_lt = omega arith; lrow_lt = omega arith; high_le = omega arith; hcol_lt = omega arith; hrow_lt = omega arith },
-      λ x y. half-other a.xs a.ys a.xe a.ye x y c.if-low-high.true,
-    )
-
-pub returns : goal.returns
-returns c =
-    let a = c.args in
-    let u = product a.xs a.ye (omega arith) (omega arith) in
-    let v = product a.ys a.xe (omega arith) (omega arith) in (
-      record { low_le = omega arith; lcol_lt = omega arith; lrow_lt = omega arith; high_le = omega arith; hcol_lt = omega arith; hrow_lt = omega arith },
-      λ x y. half-beside a.xs a.ys a.xe a.ye x y c.if-low-high.false,
-    )

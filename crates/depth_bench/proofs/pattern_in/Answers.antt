@@ -3,13 +3,9 @@ use mathlib.Core.Path.{sym, ap}
 use Rattle.pattern.proofs.WordLaws.{in-four}
 use Rattle.depth_bench.specs.Structs.{words_struct}
 use borrow.Author.Rules.{rules}
-use Rattle.depth_bench.proofs.pattern_in.Statement.{statement}
-use Rattle.depth_bench.proofs.pattern_in.Tie as tie
+use Rattle.depth_bench.proofs.pattern_in.Goals as goal
 
-returns : tie.Need-returns
+pub returns : goal.returns
 returns c =
     let p = c.args.p in
     ap words_struct (sym (in-four p.w0 p.w1 p.w2 p.w3 (search rules) (search rules) (search rules)))
-
-pub pattern-in-spec : {M : Type 1} → statement M
-pattern-in-spec = tie.close (tie.spec returns)
