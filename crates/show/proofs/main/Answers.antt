@@ -1,6 +1,5 @@
 -- `main` is safe: the length that `show_text` answers lies inside the text.
-use Rattle.std.proofs.Common.{◌≤◌, ◌≡◌, length}
-use lib.ListN.{take, replicate}
+use lib.ListN.{replicate}
 use Rattle.show_text.specs.Showing.{text_bytes}
 use Rattle.show_text.proofs.ShowLaws.{shown-inside}
 use Rattle.show.proofs.main.Goals as goal
