@@ -1,4 +1,4 @@
-//! Links target/staticlib/libfile_calls.a, which `rt staticlib file_calls` writes.
+//! Links target/staticlib/libfile_calls.a, which `outside/library file_calls` writes.
 
 fn main() {
     let folder = format!("{}/../../target/staticlib", std::env::var("CARGO_MANIFEST_DIR").unwrap());
