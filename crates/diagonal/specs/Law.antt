@@ -1,7 +1,7 @@
 -- Demand 3, the least cost and the diagonal law, of what the calls answer: `Case`, `Within`, `pattern_of`, `prediction_of`, `cost_of`,
 -- `choose_refusal` and `choose_answer` are those that the contract of `choose` cites; `list_answer` and `list_after` are what `wedgelets`
--- answers and leaves, `contour_answer` what `contour` answers, `predict_block` what `predict` leaves, and `choice_struct` of `choose_answer` of
--- `built_case` what `depth_bench_choose` answers. Turning is called transposing.
+-- answers and leaves, `contour_answer` what `contour` answers, `predict_block` what `predict` leaves, and `choice_struct` of
+-- `choose_answer` of `built_case` what `depth_bench_choose` answers. Turning is called transposing.
 use Rattle.std.specs.Prelude.{ℕ, ◌*◌, ◌≡◌, Bool, true, ◌&&◌, List, [], ◌∷◌, length}
 use Rattle.arith.specs.Checks.{given}
 use Rattle.arith.specs.Square.{transposed_list}
@@ -92,7 +92,8 @@ module _ (n : ℕ) (neighbours original table : List ℕ) (reach : ℕ) (texture
   abbrev pub transposed_for_c : Choice
   transposed_for_c =
       choice_struct
-      (choose_answer (built_case n (transposed_neighbours n neighbours) (transposed_list n original) table reach (transposed_texture n texture)))
+      (choose_answer
+      (built_case n (transposed_neighbours n neighbours) (transposed_list n original) table reach (transposed_texture n texture)))
 
   -- A choice for C that is not refused.
   pub record LawForC : Type 0 where

@@ -1,7 +1,7 @@
 -- Document 02, Ask 8: the level law, of what the calls answer. `Case`, `choose_refusal`, `choose_answer`, `prediction_of`, `cost_of` and
 -- `tried` are those that the contract of `choose` cites; `predict_answer` and `predict_block` are what `predict` answers and leaves in the
--- lent block, and `depth_bench_predict` too, for the pattern `used_words` of its words; `choice_struct` of `choose_answer` of `built_case` is
--- what `depth_bench_choose` answers. Adding is called raising: the whole number k may be negative.
+-- lent block, and `depth_bench_predict` too, for the pattern `used_words` of its words; `choice_struct` of `choose_answer` of
+-- `built_case` is what `depth_bench_choose` answers. Adding is called raising: the whole number k may be negative.
 use Rattle.std.specs.Prelude.{ℕ, ◌≡◌, Bool, true, ◌&&◌, List, ℤ, length}
 use Rattle.arith.specs.Checks.{given}
 use Rattle.arith.specs.Raised.{raised_list, raised_in_range}

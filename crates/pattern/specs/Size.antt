@@ -1,5 +1,6 @@
 -- The allowed block sizes, and what a block of the greatest size has. Of the three lists that reading is lent, `each_size` judges each, and
--- `for_size` chooses one; `aids_alone` of `show_text` names the sizes a second time. That up to n = 8 a pattern is one word is said in Words.
+-- `for_size` chooses one; `aids_alone` of `show_text` names the sizes a second time. That up to n = 8 a pattern is one word is said in
+-- Words.
 use Rattle.std.specs.Prelude.{ℕ, ◌*◌, ◌^◌, Bool, cond, ◌&&◌, ◌||◌, eqb, ltb}
 
 -- the greatest size, and the samples (256) and the neighbours (64) of a block of that size

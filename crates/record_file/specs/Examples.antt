@@ -87,8 +87,8 @@ pub record ReadCases : Type 0 where
   pub word : reading (aids_of (65536 ∷ []) 1 [] 0 [] 0 []) sample_file ≡ refused_at 5 8
 
 read_cases : ReadCases
-unfolding read_file read_lengths_ok patterns_of pattern_at list_of file_lines size_meaning value_meaning record_refusal offset_ok offset_usable exactly
-    size_title depth_title record_title size_line value_line record_line many_lines number signed more_digits
+unfolding read_file read_lengths_ok patterns_of pattern_at list_of file_lines size_meaning value_meaning record_refusal offset_ok
+    offset_usable exactly size_title depth_title record_title size_line value_line record_line many_lines number signed more_digits
     file_text size_text value_text record_text texts number_text signed_text signed_numeral numeral digits_of further_digits
 read_cases =
     record {

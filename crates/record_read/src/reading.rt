@@ -35,7 +35,8 @@ fn lists_ok(
     words16: usize,
     count16: usize,
 ) -> bool
-    ensures { let lent : ℕ → Bool = λ n. count_ok (whole_patterns n (for_size n words4 words8 words16)) (for_size n count4 count8 count16) in
+    ensures { let lent : ℕ → Bool = λ n.
+        count_ok (whole_patterns n (for_size n words4 words8 words16)) (for_size n count4 count8 count16) in
         result ≡ each_size lent }
 {
     if !count_ok(whole_patterns(4, words4), count4) {

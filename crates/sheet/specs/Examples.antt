@@ -86,7 +86,8 @@ abbrev pub two_rows : List ℕ
 two_rows = replicate 4 100 ++ replicate 4 128
 
 abbrev pub two_blocks : List ℕ
-two_blocks = two_rows ++ (replicate 4 140 ++ replicate 4 100) ++ (replicate 4 140 ++ replicate 4 100) ++ (replicate 4 140 ++ replicate 4 100)
+two_blocks =
+    two_rows ++ (replicate 4 140 ++ replicate 4 100) ++ (replicate 4 140 ++ replicate 4 100) ++ (replicate 4 140 ++ replicate 4 100)
 
 abbrev pub sample_task : Task
 sample_task = task_of (material_of (0xFFF0 ∷ []) 1 sample_table []) two_blocks 2
@@ -100,6 +101,6 @@ pub record Composing : Type 0 where
 
 pub composing : Composing
 unfolding clamped list_of nearest_to index_of vert_edge hor_edge lt_by br_by lt br side_depth level_of sample_of predicted
-    least_to sum_to side_cost trial_from best_cost best_pattern chosen first_present substituted_by substituted walked written cut placed_samples
-    composed_to
+    least_to sum_to side_cost trial_from best_cost best_pattern chosen first_present substituted_by substituted walked written cut
+    placed_samples composed_to
 composing = record { first = refl; second = refl; composed = refl }

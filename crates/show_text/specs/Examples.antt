@@ -32,9 +32,9 @@ sample_shown :
     shown_text sample_file
     ≡ bytes_of "width height\n4 4\ndepth\n100 100 100 100\n140 140 140 140\n140 140 140 140\n140 140 140 140\n"
 unfolding
-    shown_text size_in aids_for word_list in_words patterns_of pattern_at sides_title rows_text sides_text sheet_text read_file read_lengths_ok
-    file_lines size_meaning value_meaning record_refusal offset_ok offset_usable exactly size_title depth_title record_title size_line value_line
-    record_line many_lines texts number signed more_digits number_text numeral digits_of further_digits bits clamped list_of nearest_to
+    shown_text size_in aids_for word_list in_words patterns_of pattern_at sides_title rows_text sides_text sheet_text read_file
+    read_lengths_ok file_lines size_meaning value_meaning record_refusal offset_ok offset_usable exactly size_title depth_title
+    record_title size_line value_line record_line many_lines texts number signed more_digits number_text numeral digits_of further_digits bits clamped list_of nearest_to
     index_of candidate wedgelet holds keep ends starts wedgelet_list vert_edge hor_edge lt_by br_by lt br side_depth level_of sample_of
     predicted first_present substituted_by substituted walked written placed_samples placed_in_turn
 sample_shown = refl
@@ -57,8 +57,8 @@ refusals_shown :
     × (shown_text (printed 4 4 0 0 200) ≡ refusal_text 24 8)
 unfolding
     shown_text size_in aids_for word_list in_words patterns_of pattern_at list_of read_file read_lengths_ok file_lines size_meaning
-    value_meaning record_refusal offset_ok offset_usable exactly size_title depth_title record_title size_line value_line record_line many_lines texts
-    number signed more_digits number_text numeral digits_of further_digits bits candidate wedgelet holds keep ends starts wedgelet_list
+    value_meaning record_refusal offset_ok offset_usable exactly size_title depth_title record_title size_line value_line record_line
+    many_lines texts number signed more_digits number_text numeral digits_of further_digits bits candidate wedgelet holds keep ends starts wedgelet_list
     file_text size_text value_text record_text signed_text signed_numeral
 refusals_shown = (refl, refl, refl, refl, refl, refl, refl, refl)
 

@@ -31,7 +31,8 @@ list_answer n old = answer (list_refusal n (length old)) (length (wedgelet_list 
 
 -- the lent list afterwards: the words of the patterns, and past them the old content
 unfoldable pub list_after : ℕ → List ℕ → List ℕ
-list_after n old = lent (list_refusal n (length old)) (word_list n (wedgelet_list n) ++ drop (words_of n * length (wedgelet_list n)) old) old
+list_after n old =
+    lent (list_refusal n (length old)) (word_list n (wedgelet_list n) ++ drop (words_of n * length (wedgelet_list n)) old) old
 
 -- The wedgelet list as built is the one for n, with its count; `list` has the patterns that are lent. Those past the count do not matter.
 unfoldable pub as_built : ℕ → List ℕ → ℕ → Bool

@@ -13,7 +13,9 @@ pub returns-then-refusal-ne0 : goal.returns-then-refusal-ne0
 returns-then-refusal-ne0 c =
     let a = c.args in
     let e = c.refused.ensures
-    ∙ ap choice_struct (told-refused (built_case a.n a.border.now a.original.now a.table.now a.reach a.texture.now) c.built_refusal-refusal.ensures c.if-refusal-ne0.true) in
+    ∙ ap choice_struct
+    (told-refused (built_case a.n a.border.now a.original.now a.table.now a.reach a.texture.now) c.built_refusal-refusal.ensures
+    c.if-refusal-ne0.true) in
     record { answered = e; least = least-built a.n a.border.now a.original.now a.table.now a.reach a.texture.now e }
 
 pub returns-in-Count : goal.returns-in-Count

@@ -29,7 +29,10 @@ returns-then-number-ne0 c = refused-by _ (told (goal.at.returns-then-number-ne0 
 pub bounds-table-k : goal.bounds-table-k
 bounds-table-k c =
     let a = c.args in
-    let h = holds ((ltb 0 (length a.table.now), 3) ∷ (offset_ok a.off, 4) ∷ []) 0 (sym (told (goal.at.bounds-table-k c).After-check-number) ∙ c.if-number-ne0.false) in
+    let h =
+    holds ((ltb 0 (length a.table.now), 3) ∷ (offset_ok a.off, 4) ∷ []) 0
+    (sym (told (goal.at.bounds-table-k c).After-check-number) ∙ c.if-number-ne0.false)
+    in
     clamped-in (length a.table.now) _ _ c.clamped_place-k.ensures h.0.0
 
 pub returns : goal.returns

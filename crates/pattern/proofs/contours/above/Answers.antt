@@ -33,7 +33,11 @@ loop-i-preserved c =
     let v = get_or a.texture.now (a.from + c.loop-i.i) 0 in
     let e : c.wide.result ≡ v = c.wide.ensures.0 in (
       omega arith,
-      elim c.if-level-wide.branch [ then-level-wide w ↦ bits-on _ c.loop-i.i (omega arith) c.loop-i.invariant.1 (lt-ltb a.level v (rw (← e) w.if-level-wide.true)) w.w-is | else-level-wide w ↦ bits-off _ c.loop-i.i c.loop-i.invariant.1 (le-ltb a.level v (rw (← e) w.if-level-wide.false)) w.w-is ],
+      elim c.if-level-wide.branch [
+        | then-level-wide w ↦
+            bits-on _ c.loop-i.i (omega arith) c.loop-i.invariant.1 (lt-ltb a.level v (rw (← e) w.if-level-wide.true)) w.w-is
+        | else-level-wide w ↦ bits-off _ c.loop-i.i c.loop-i.invariant.1 (le-ltb a.level v (rw (← e) w.if-level-wide.false)) w.w-is
+      ],
     )
 
 pub returns : goal.returns

@@ -72,7 +72,8 @@ returns c =
     let t = c.args.texture.now in
     let n = c.args.n in
     ap given
-    (contour-words n t (fits (goal.at.returns c).Else-refusal-ne0).high c.threshold-level.ensures c.past_word-c1.ensures c.past_word-c2.ensures c.past_word-c3.ensures
+    (contour-words n t (fits (goal.at.returns c).Else-refusal-ne0).high c.threshold-level.ensures
+    c.past_word-c1.ensures c.past_word-c2.ensures c.past_word-c3.ensures
     c.lesser.ensures c.lesser-2.ensures c.lesser-3.ensures c.lesser-4.ensures
     c.above.ensures c.above-2.ensures c.above-3.ensures c.above-4.ensures)
     ∙ answer-given (samples_refusal n (length t)) (contour_of n t) (none (goal.at.returns c).Else-refusal-ne0)

@@ -26,17 +26,21 @@ pub bounds-texture-0 : goal.bounds-texture-0
 bounds-texture-0 c = omega (arith, inside (goal.at.bounds-texture-0 c).Start 0 0 (omega (arith, c.requires.0)) (omega (arith, c.requires.0)))
 
 pub bounds-texture-last : goal.bounds-texture-last
-bounds-texture-last c = omega (arith, inside (goal.at.bounds-texture-last c).Start (c.args.n - 1) 0 (omega (arith, c.requires.0)) (omega (arith, c.requires.0)))
+bounds-texture-last c =
+    omega (arith, inside (goal.at.bounds-texture-last c).Start (c.args.n - 1) 0 (omega (arith, c.requires.0)) (omega (arith, c.requires.0)))
 
 pub overflow_add-top : goal.overflow_add-top
 overflow_add-top c = omega (arith, c.wide.ensures.1, c.wide-2.ensures.1)
 
 pub overflow_mul-last : goal.overflow_mul-last
 overflow_mul-last c =
-    omega (arith, small (goal.at.overflow_mul-last c).Start, inside (goal.at.overflow_mul-last c).Start 0 (c.args.n - 1) (omega (arith, c.requires.0)) (omega (arith, c.requires.0)))
+    let s = (goal.at.overflow_mul-last c).Start in
+    omega (arith, small s, inside s 0 (c.args.n - 1) (omega (arith, c.requires.0)) (omega (arith, c.requires.0)))
 
 pub bounds-texture-last-2 : goal.bounds-texture-last-2
-bounds-texture-last-2 c = omega (arith, inside (goal.at.bounds-texture-last-2 c).Start 0 (c.args.n - 1) (omega (arith, c.requires.0)) (omega (arith, c.requires.0)))
+bounds-texture-last-2 c =
+    let s = (goal.at.bounds-texture-last-2 c).Start in
+    omega (arith, inside s 0 (c.args.n - 1) (omega (arith, c.requires.0)) (omega (arith, c.requires.0)))
 
 pub overflow_mul-last-2 : goal.overflow_mul-last-2
 overflow_mul-last-2 c = overflow_mul-last (goal.at.overflow_mul-last-2 c).After-wide-2
@@ -44,7 +48,8 @@ overflow_mul-last-2 c = overflow_mul-last (goal.at.overflow_mul-last-2 c).After-
 pub overflow_add-last : goal.overflow_add-last
 overflow_add-last c =
     let last = c.args.n - 1 in
-    omega (arith, small (goal.at.overflow_add-last c).Start, inside (goal.at.overflow_add-last c).Start last last (omega (arith, c.requires.0)) (omega (arith, c.requires.0)))
+    let s = (goal.at.overflow_add-last c).Start in
+    omega (arith, small s, inside s last last (omega (arith, c.requires.0)) (omega (arith, c.requires.0)))
 
 pub bounds-texture-last-3 : goal.bounds-texture-last-3
 bounds-texture-last-3 c =

@@ -37,7 +37,9 @@ pub returns-then-n-le8 : goal.returns-then-n-le8
 returns-then-n-le8 c =
     let a = c.args in
     c.one_word-then-n-le8.ensures
-    ∙ sym (patterns-at a.n a.list.now a.entry (inside (goal.at.returns-then-n-le8 c).Else-whole_patterns-entry) ∙ at-narrow a.n a.list.now a.entry c.if-n-le8.true)
+    ∙ sym
+    (patterns-at a.n a.list.now a.entry (inside (goal.at.returns-then-n-le8 c).Else-whole_patterns-entry)
+    ∙ at-narrow a.n a.list.now a.entry c.if-n-le8.true)
 
 pub overflow_mul-entry : goal.overflow_mul-entry
 overflow_mul-entry c = omega (arith, wide c)
@@ -49,4 +51,6 @@ pub returns : goal.returns
 returns c =
     let a = c.args in
     c.four_at.ensures
-    ∙ sym (patterns-at a.n a.list.now a.entry (inside (goal.at.returns c).Else-whole_patterns-entry) ∙ at_wide a.n a.list.now a.entry c.if-n-le8.false)
+    ∙ sym
+    (patterns-at a.n a.list.now a.entry (inside (goal.at.returns c).Else-whole_patterns-entry)
+    ∙ at_wide a.n a.list.now a.entry c.if-n-le8.false)

@@ -13,7 +13,10 @@ use Rattle.pattern.proofs.words.word_ok.Goals as goal
 pub returns-then-n-ge-GREATEST_SIZE : goal.returns-then-n-ge-GREATEST_SIZE
 returns-then-n-ge-GREATEST_SIZE c =
     let p = c.args.p in
-    sym (lt-ltb _ _ (lt_of_lt_of_le (four-lt p.w0 p.w1 p.w2 p.w3 (search rules) (search rules) (search rules) (search rules)) (pow_mono (square_le {n = 16} c.if-n-ge-GREATEST_SIZE.true))))
+    sym
+    (lt-ltb _ _
+    (lt_of_lt_of_le (four-lt p.w0 p.w1 p.w2 p.w3 (search rules) (search rules) (search rules) (search rules))
+    (pow_mono (square_le {n = 16} c.if-n-ge-GREATEST_SIZE.true))))
 
 pub overflow_mul-k0 : goal.overflow_mul-k0
 overflow_mul-k0 c = let h : c.args.n ≤ 15 = omega arith in omega (arith, square_le h)

@@ -38,4 +38,5 @@ returns-then-list-at-3 c = sym (ne_eqb _ _ (λ q. c.if-list-at-3.true (same (goa
 pub returns : goal.returns
 returns c =
     let a = c.args in
-    four-eqb _ _ _ _ _ _ _ _ (small (goal.at.returns c).After-shared_slice_known-1 a.at) (small (goal.at.returns c).After-shared_slice_known-1 (a.at + 1)) (small (goal.at.returns c).After-shared_slice_known-1 (a.at + 2)) c.if-list-at.false c.if-list-at-2.false c.if-list-at-3.false
+    let s = small (goal.at.returns c).After-shared_slice_known-1 in
+    four-eqb _ _ _ _ _ _ _ _ (s a.at) (s (a.at + 1)) (s (a.at + 2)) c.if-list-at.false c.if-list-at-2.false c.if-list-at-3.false

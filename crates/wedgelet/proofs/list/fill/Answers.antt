@@ -81,7 +81,8 @@ loop-k-init c =
 pub is_at-requires : goal.is_at-requires
 is_at-requires c =
     let k = c.loop-k.k in
-    (fits (goal.at.is_at-requires c).Else-e-s (k - 1) (omega (arith, c.loop-k.invariant.within)), small (goal.at.is_at-requires c).After-candidate_of-p)
+    let a = goal.at.is_at-requires c in
+    (fits a.Else-e-s (k - 1) (omega (arith, c.loop-k.invariant.within)), small a.After-candidate_of-p)
 
 pub offset_bounds-earlier-k : goal.offset_bounds-earlier-k
 offset_bounds-earlier-k c = omega (arith, c.loop-k.invariant.within, few (goal.at.offset_bounds-earlier-k c).Else-e-s)
@@ -136,7 +137,8 @@ next-preserved c = (
   omega arith,
   grown-kept _ _ _ _ _ _ _ _ c.if-e-s.false c.candidate_of-p.ensures c.next.invariant.1
       (λ z. c.if-m-eq0.false (c.marks-m.ensures.0 ∙ ap ones z ∙ ones-zero))
-      (λ j h. c.loop-k.invariant.fresh j (omega arith) h) (fits (goal.at.next-preserved c).Else-e-s c.next.count (omega arith)) (few (goal.at.next-preserved c).Else-e-s) (marked (goal.at.next-preserved c).After-list-1) c.marks-m.ensures.0
+      (λ j h. c.loop-k.invariant.fresh j (omega arith) h) (fits (goal.at.next-preserved c).Else-e-s c.next.count (omega arith))
+      (few (goal.at.next-preserved c).Else-e-s) (marked (goal.at.next-preserved c).After-list-1) c.marks-m.ensures.0
       refl c.put.ensures,
 )
 
@@ -171,5 +173,7 @@ unfolding wedgelet_list
 returns c =
     let f = c.loop-s.invariant.1.front in
     let n = c.args.n in
-    let q : c.loop-s.s ≡ points n = omega arith in
-    (f.counted ∙ ap (λ (x : ℕ). length (starts n x)) q, f.stored ∙ ap (λ (x : ℕ). word_list n (starts n x) ++ drop (words_of n * length (starts n x)) c.args.list.now) q)
+    let q : c.loop-s.s ≡ points n = omega arith in (
+      f.counted ∙ ap (λ (x : ℕ). length (starts n x)) q,
+      f.stored ∙ ap (λ (x : ℕ). word_list n (starts n x) ++ drop (words_of n * length (starts n x)) c.args.list.now) q,
+    )

@@ -43,7 +43,9 @@ overflow_mul-words_of c = let n = c.args.n in omega (arith, its c, words-enough 
 
 pub returns-then-words-words_of : goal.returns-then-words-words_of
 unfolding list_refusal
-returns-then-words-words_of c = rw (good (goal.at.returns-then-words-words_of c).Else-not-size_ok, lt-leb _ _ (rw (its (goal.at.returns-then-words-words_of c).After-words_of) at c.if-words-words_of.true))
+returns-then-words-words_of c =
+    let a = goal.at.returns-then-words-words_of c in
+    rw (good a.Else-not-size_ok, lt-leb _ _ (rw (its a.After-words_of) at c.if-words-words_of.true))
 
 pub returns : goal.returns
 unfolding list_refusal

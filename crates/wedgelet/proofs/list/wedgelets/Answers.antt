@@ -20,7 +20,8 @@ returns-then-refusal-ne0 c =
     let r = list_refusal a.n (length a.list.now) in
     let e = c.list_refusal-refusal.ensures in (
       ap refused e ∙ answer-refused r (length (wedgelet_list a.n)) (λ z. c.if-refusal-ne0.true (e ∙ z)),
-      lent-refused r (word_list a.n (wedgelet_list a.n) ++ drop (words_of a.n * length (wedgelet_list a.n)) a.list.now) a.list.now (λ z. c.if-refusal-ne0.true (e ∙ z)),
+      lent-refused r (word_list a.n (wedgelet_list a.n) ++ drop (words_of a.n * length (wedgelet_list a.n)) a.list.now) a.list.now
+          (λ z. c.if-refusal-ne0.true (e ∙ z)),
     )
 
 -- past the checks
@@ -40,5 +41,7 @@ returns c =
     let r = list_refusal a.n (length a.list.now) in
     let f = c.fill.ensures in (
       ap given f.0 ∙ answer-given r (length (wedgelet_list a.n)) (none (goal.at.returns c).Else-refusal-ne0),
-      f.1 ∙ lent-given r (word_list a.n (wedgelet_list a.n) ++ drop (words_of a.n * length (wedgelet_list a.n)) a.list.now) a.list.now (none (goal.at.returns c).Else-refusal-ne0),
+      f.1
+          ∙ lent-given r (word_list a.n (wedgelet_list a.n) ++ drop (words_of a.n * length (wedgelet_list a.n)) a.list.now) a.list.now
+          (none (goal.at.returns c).Else-refusal-ne0),
     )
