@@ -175,7 +175,7 @@ fn read_and_copy(
 ) -> FileBack
     requires front_read { (FrontRead (length texture.now) bytes.now front) × (Counted (one_list list.now count texture.now) front.n) }
     requires has_room { HasRoom front (length drawn.old) (length kept.old) }
-    requires drawn_in_bounds { (length drawn.old ≤ length samples.old) × (length kept.old ≤ length records.old) }
+    requires drawn_fits { (length drawn.old ≤ length samples.old) × (length kept.old ≤ length records.old) }
     ensures { let A = one_list list.now count texture.now in
         let before = lent_of samples.old records.old in
         Leaves A (sheet_lines A front bytes.now) before result (lent_of samples.new records.new) }
@@ -199,7 +199,7 @@ fn read_sheet(
     records: &mut [[i32; 4]],
 ) -> FileBack
     requires front_read { (FrontRead (length texture.now) bytes.now front) × (Counted (one_list list.now count texture.now) front.n) }
-    requires most_samples_in_bounds { (most_samples ≤ length samples.old) × (most_blocks ≤ length records.old) }
+    requires enough_lent { (most_samples ≤ length samples.old) × (most_blocks ≤ length records.old) }
     ensures { let A = one_list list.now count texture.now in
         let before = lent_of samples.old records.old in
         Leaves A (sheet_lines A front bytes.now) before result (lent_of samples.new records.new) }

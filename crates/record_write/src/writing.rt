@@ -48,9 +48,9 @@ fn put_values(out: &mut [u8], from: Cursor, table: &[u8]) -> Cursor
 
 // The lines of the first m records; the place after them.
 fn put_records(out: &mut [u8], from: Cursor, m: usize, records: &[[i32; 4]]) -> Cursor
-    requires m_in_bounds { from.at + 32 * m ≤ length out.old }
-    requires m_in_bounds_2 { m ≤ length records.now }
-    requires by_index { (i : ℕ) → i < m → Small (record_at records.now i) }
+    requires has_room { from.at + 32 * m ≤ length out.old }
+    requires records_lent { m ≤ length records.now }
+    requires small_records { (i : ℕ) → i < m → Small (record_at records.now i) }
     ensures { let text = texts record_text (list_of (record_at records.now) m) in
         Written out.old out.new from.at text result.at }
 {
@@ -81,8 +81,8 @@ fn put_head(out: &mut [u8], sheet: Sheet, values: u32) -> Cursor
 // The whole text; its length.
 fn put_file(out: &mut [u8], sheet: Sheet, table: &[u8], m: usize, records: &[[i32; 4]]) -> usize
     requires head_fits { (HeadFits sheet (length table.now)) × (space_for (length table.now) m ≤ length out.old) }
-    requires m_in_bounds { m ≤ length records.now }
-    requires by_index { (i : ℕ) → i < m → Small (record_at records.now i) }
+    requires records_lent { m ≤ length records.now }
+    requires small_records { (i : ℕ) → i < m → Small (record_at records.now i) }
     ensures { let l = list_of (record_at records.now) m in
         let text = file_text sheet.n sheet.width sheet.height table.now l in
         Written out.old out.new 0 text result }

@@ -37,8 +37,8 @@ fn put_sides(out: &mut [u8], width: u32, height: u32) -> Cursor
 
 // The sample rows; the place after them.
 fn put_rows(out: &mut [u8], from: Cursor, width: usize, height: usize, samples: &[u8]) -> Cursor
-    requires height_bound { (width * height ≤ most_samples) × (width * height ≤ length samples.now) }
-    requires height_in_bounds { from.at + 4 * (width * height) ≤ length out.old }
+    requires samples_held { (width * height ≤ most_samples) × (width * height ≤ length samples.now) }
+    requires has_room { from.at + 4 * (width * height) ≤ length out.old }
     ensures { Written out.old out.new from.at (rows_text width height samples.now) result.at }
 {
     let mut next = from;

@@ -80,8 +80,8 @@ fn digit(b: u8) -> u64 {
 
 // A number in base 10 or 16 with one more digit; what does not fit goes. A word, in base 36, is read for its length only.
 fn with_digit(value: u64, base: u64, d: u64) -> u64
-    requires d_lt_base { d < base }
-    requires base_bound { base ≤ 36 }
+    requires is_digit { d < base }
+    requires small_base { base ≤ 36 }
 {
     let kept = value % 0x1000_0000_0000_0000;
     if base == 16 {

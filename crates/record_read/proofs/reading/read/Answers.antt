@@ -89,7 +89,7 @@ read_sheet-requires c =
     record {
       front_read =
           (front, rw (c.list_for-list.ensures, c.count_for-count.ensures) (record { inside = lent.inside n size; few = lent.few n size }));
-      most_samples_in_bounds = (lent.samples_lent, lent.records_lent);
+      enough_lent = (lent.samples_lent, lent.records_lent);
     }
 
 pub returns : goal.returns

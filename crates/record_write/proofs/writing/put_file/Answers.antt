@@ -35,11 +35,11 @@ put_values-values-requires c =
     let r = c.requires.head_fits in
     room-values a.sheet a.table.now a.m (byte (goal.at.put_values-values-requires c).After-put_head-head) r.0 r.1 c.put_head-head.ensures
 
-pub put_records-end-requires-clause-m_in_bounds : goal.put_records-end-requires-clause-m_in_bounds
-put_records-end-requires-clause-m_in_bounds c =
+pub put_records-end-requires-clause-has_room : goal.put_records-end-requires-clause-has_room
+put_records-end-requires-clause-has_room c =
     let a = c.args in
     let r = c.requires.head_fits in
-    let e = goal.at.put_records-end-requires-clause-m_in_bounds c in
+    let e = goal.at.put_records-end-requires-clause-has_room c in
     room-records a.sheet a.table.now a.m (byte e.After-put_head-head) r.0 r.1 c.put_head-head.ensures c.put_values-values.ensures
     (title e.After-put_record_title-title)
 

@@ -24,8 +24,8 @@ loop-i-preserved c =
     let h : l.i < a.m = c.loop-i-test.true in
     let put = c.put_record_line-next in
     let w =
-    line-more record_text f 32 a.m (λ j q. record-short (f j) (c.requires.by_index j q)) l.i (record_printable (f l.i))
-    (record-is-printed (f l.i) (c.requires.by_index l.i h)) h (omega arith) c.requires.m_in_bounds l.invariant.0
+    line-more record_text f 32 a.m (λ j q. record-short (f j) (c.requires.small_records j q)) l.i (record_printable (f l.i))
+    (record-is-printed (f l.i) (c.requires.small_records l.i h)) h (omega arith) c.requires.has_room l.invariant.0
     (subst (λ (r : Record). Put l.out put.new.out l.next (printed_if (record_printable r) (record_text r)) put.result) c.record_in.ensures
     put.ensures) in
     (w, omega arith, written-length w)

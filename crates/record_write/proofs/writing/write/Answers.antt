@@ -96,8 +96,8 @@ put_file-requires c =
     rw c.blocks-m.ensures
     (record {
       head_fits = (accepted-head (source d) (lentList d) a.count (records d) (space d) p, p.lengths.room);
-      m_in_bounds = p.lengths.enough;
-      by_index = accepted-small (source d) (lentList d) a.count (records d) (space d) p;
+      records_lent = p.lengths.enough;
+      small_records = accepted-small (source d) (lentList d) a.count (records d) (space d) p;
     })
 
 pub returns : goal.returns

@@ -28,7 +28,7 @@ loop-i-preserved c =
     let v = get_or t l.i 0 in
     let w =
     line-more (sample_text a.width t) (λ k. k) 4 m (samples-short a.width t byte m) l.i (number_printable v)
-    (sample-printed v (byte l.i)) h (omega arith) c.requires.height_in_bounds l.invariant.0
+    (sample-printed v (byte l.i)) h (omega arith) c.requires.has_room l.invariant.0
     (subst (λ (e : ℕ). Put l.out put.new.out l.next (printed_if (number_printable v) (number_text e v)) put.result) c.end_byte-end.ensures
     (subst (λ (v : ℕ). Put l.out put.new.out l.next (printed_if (number_printable v) (number_text c.end_byte-end.result v)) put.result)
     c.wide-v.ensures put.ensures)) in

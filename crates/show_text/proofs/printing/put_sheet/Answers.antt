@@ -6,7 +6,7 @@ pub put_rows-end-requires : goal.put_rows-end-requires
 put_rows-end-requires c =
     let f = c.requires in
     let r = rows-room _ _ f.width f.height f.space c.put_sides-sides.ensures in
-    record { height_bound = (r.0, f.held); height_in_bounds = r.1 }
+    record { samples_held = (r.0, f.held); has_room = r.1 }
 
 pub returns : goal.returns
 returns c = sheet-written _ _ _ c.put_sides-sides.ensures c.put_rows-end.ensures
