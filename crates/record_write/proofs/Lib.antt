@@ -1,3 +1,4 @@
 -- Laws of writing.
 pub mod SpaceLaws
 pub mod WriteLaws
+pub mod FirstLaws
