@@ -1,4 +1,5 @@
-// A block's samples in layers, each layer a pattern of four words: the samples below each depth value.
+// A block's samples in layers, each layer a pattern of four words: the samples below each depth value. The functions that answer an array
+// are not inlined: it is then made where the caller keeps it, and no second one takes stack.
 ghost use Rattle.std.specs.Prelude.{◌≡◌, ◌<◌, ◌≤◌, length};
 ghost use Rattle.pattern.specs.Size.{greatest_samples};
 ghost use Rattle.choice.specs.Layers.{EqualWords, BelowLayers};
@@ -18,6 +19,7 @@ pub(crate) fn wide(x: u8) -> usize
 }
 
 // The samples of each value: word i of the value v at 4v + i.
+#[inline(never)]
 fn equal_layers(samples: &[u8]) -> [u64; EQUAL_WORDS]
     requires { length samples.now ≤ greatest_samples }
     ensures { EqualWords (length samples.now) samples.now result }
@@ -32,6 +34,7 @@ fn equal_layers(samples: &[u8]) -> [u64; EQUAL_WORDS]
 }
 
 // The samples below each value from 0 to 256.
+#[inline(never)]
 pub(crate) fn below_layers(samples: &[u8]) -> [u64; LAYER_WORDS]
     requires { length samples.now ≤ greatest_samples }
     ensures { BelowLayers 257 samples.now result }

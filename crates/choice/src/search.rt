@@ -170,7 +170,9 @@ pub(crate) struct Picked {
 // More than any pattern costs: it has two partitions, and each costs at most 255 for each of 256 samples.
 const ABOVE_ALL: u32 = 2 * 255 * 256 + 1;
 
-// The first pattern of least cost, and how many offsets were tried for all patterns.
+// The first pattern of least cost, and how many offsets were tried for all patterns. It keeps a frame of its own, so that a caller that
+// builds the list first needs no stack for its arrays meanwhile.
+#[inline(never)]
 pub(crate) fn best_pattern(
     n: usize,
     list: &[u64],

@@ -1,4 +1,5 @@
-// Sums of a block's samples by their marks: eight samples at a time, a sum is looked up by the byte that marks them.
+// Sums of a block's samples by their marks: eight samples at a time, a sum is looked up by the byte that marks them. `eight_sums` is not
+// inlined, so that its array is made where the caller keeps it.
 ghost use Rattle.std.specs.Prelude.{◌≡◌, ℕ, ◌+◌, ◌*◌, ◌<◌, ◌≤◌, ◌^◌, length, get_or};
 ghost use Rattle.pattern.specs.Size.{greatest_samples};
 ghost use Rattle.pattern.specs.Words.{pattern_number};
@@ -29,6 +30,7 @@ fn take_sample(sums: &mut [u16], from: usize, width: usize, sample: u8)
 }
 
 // The sums of all samples: at 256r + b that of the samples from 8r on that the byte b marks.
+#[inline(never)]
 pub(crate) fn eight_sums(samples: &[u8]) -> [u16; SUMS]
     requires { length samples.now ≤ greatest_samples }
     ensures { EightSums (length samples.now) samples.now result }
