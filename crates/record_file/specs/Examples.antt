@@ -14,7 +14,8 @@ use Rattle.record.specs.Record.{record_of}
 use Rattle.record_text.specs.Numeral.{digits_of, further_digits, numeral, signed_numeral}
 use Rattle.record_text.specs.Parsed.{exactly}
 use Rattle.record_text.specs.Field.{more_digits, number, signed, number_text, signed_text}
-use Rattle.record_text.specs.Line.{size_title, depth_title, record_title, size_line, size_text, value_line, value_text, record_line, record_text}
+use Rattle.record_text.specs.Line.{size_title, depth_title, record_title, size_line, size_text}
+use Rattle.record_text.specs.Line.{value_line, value_text, record_line, record_text}
 use Rattle.record_text.specs.Lines.{Lined, refused_at, read, many_lines, texts}
 use Rattle.record_file.specs.Text.{file_text}
 use Rattle.record_file.specs.Reading.{File, file_of, aids_of, Aids, size_meaning, value_meaning, file_lines, read_lengths_ok, read_file}

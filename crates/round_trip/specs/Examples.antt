@@ -44,7 +44,8 @@ pub record ComposedSample : Type 0 where
 
 pub composed_sample : ComposedSample
 unfolding clamped list_of nearest_to index_of vert_edge hor_edge lt_by br_by lt br side_depth level_of sample_of predicted least_to
-    sum_to side_cost trial_from best_cost best_pattern chosen first_present substituted_by substituted walked written cut placed_samples composed_to
+    sum_to side_cost trial_from best_cost best_pattern chosen first_present substituted_by substituted walked written cut
+    placed_samples composed_to
     bytes rising table_ok words_ok lengths_ok_by start_refusal_by over compose_lengths_ok choice_refusal compose_refusal compose_answer
     compose_after compose_records record_in lent_number fields_of
 composed_sample = record { answer = refl; records = refl; samples = refl }

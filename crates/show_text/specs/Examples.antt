@@ -19,7 +19,8 @@ use Rattle.record_text.specs.Bytes.{bytes_of}
 use Rattle.record_text.specs.Numeral.{digits_of, further_digits, numeral, signed_numeral}
 use Rattle.record_text.specs.Parsed.{exactly}
 use Rattle.record_text.specs.Field.{more_digits, number, signed, number_text, signed_text}
-use Rattle.record_text.specs.Line.{size_title, depth_title, record_title, size_line, size_text, value_line, value_text, record_line, record_text}
+use Rattle.record_text.specs.Line.{size_title, depth_title, record_title, size_line, size_text}
+use Rattle.record_text.specs.Line.{value_line, value_text, record_line, record_text}
 use Rattle.record_text.specs.Lines.{many_lines, texts}
 use Rattle.record_file.specs.Text.{file_text}
 use Rattle.record_file.specs.Reading.{size_meaning, value_meaning, file_lines, read_lengths_ok, read_file}
@@ -34,7 +35,8 @@ sample_shown :
 unfolding
     shown_text size_in aids_for word_list in_words patterns_of pattern_at sides_title rows_text sides_text sheet_text read_file
     read_lengths_ok file_lines size_meaning value_meaning record_refusal offset_ok offset_usable exactly size_title depth_title
-    record_title size_line value_line record_line many_lines texts number signed more_digits number_text numeral digits_of further_digits bits clamped list_of nearest_to
+    record_title size_line value_line record_line many_lines texts number signed more_digits number_text numeral digits_of
+    further_digits bits clamped list_of nearest_to
     index_of candidate wedgelet holds keep ends starts wedgelet_list vert_edge hor_edge lt_by br_by lt br side_depth level_of sample_of
     predicted first_present substituted_by substituted walked written placed_samples placed_in_turn
 sample_shown = refl
@@ -58,7 +60,8 @@ refusals_shown :
 unfolding
     shown_text size_in aids_for word_list in_words patterns_of pattern_at list_of read_file read_lengths_ok file_lines size_meaning
     value_meaning record_refusal offset_ok offset_usable exactly size_title depth_title record_title size_line value_line record_line
-    many_lines texts number signed more_digits number_text numeral digits_of further_digits bits candidate wedgelet holds keep ends starts wedgelet_list
+    many_lines texts number signed more_digits number_text numeral digits_of further_digits bits candidate wedgelet holds keep
+    ends starts wedgelet_list
     file_text size_text value_text record_text signed_text signed_numeral
 refusals_shown = (refl, refl, refl, refl, refl, refl, refl, refl)
 
