@@ -8,7 +8,7 @@ use native.Mathlib.Numerals.{add-one}
 use lib.ListN.{length, get_or, drop, drop_of_length-le}
 use lib.Seq.{drop-cons}
 use lib.Dec.{leb, ltb}
-use borrow.Author.Tests.{le-leb, lt-leb, lt-ltb, leb-true, ltb-true}
+use borrow.Author.Tests.{le-leb, lt-leb, lt-ltb, le-ltb, leb-true, ltb-true}
 use Rattle.arith.proofs.Bools.{both_of}
 use Rattle.depth_table.specs.Table.{bytes, rising, most_values, some_value, table_ok}
 
@@ -92,6 +92,15 @@ table-sound t h =
 pub table-made : (t : List ℕ) → Sound t → table_ok t ≡ true
 unfolding table_ok
 table-made t s = rw (lt-ltb 0 (length t) s.some, le-leb (length t) most_values s.few, s.small, s.rises)
+
+-- a table without a value is not sound, and one of more than 256 is not
+pub table_empty : (t : List ℕ) → length t < 1 → false ≡ table_ok t
+unfolding table_ok
+table_empty t h = simp (le-ltb 0 (length t) (omega arith))
+
+pub table_long : (t : List ℕ) → 256 < length t → false ≡ table_ok t
+unfolding table_ok
+table_long t h = simp (lt-ltb 0 (length t) (omega arith), lt-leb (length t) 256 h)
 
 -- 1 to 256 values
 pub table-counts : (t : List ℕ) → table_ok t ≡ true → (1 ≤ length t) × (length t ≤ most_values)

@@ -67,6 +67,7 @@ fn is_rising(table: &[u8]) -> bool
 pub const VALUES: usize = 256;
 
 // Whether the slice is a sound depth table: 1 to 256 values, strictly rising.
+#[tactic(auto, using(crate::proofs::TableLaws::table_empty, crate::proofs::TableLaws::table_long))]
 pub fn is_table(table: &[u8]) -> bool
     ensures { result ≡ table_ok table.now }
 {

@@ -29,6 +29,7 @@ pub(crate) enum SizeBack {
 }
 
 // The line k of a table value that is to be at least `low`.
+#[tactic(auto, using(crate::proofs::ReadLaws::value_low))]
 pub(crate) fn value_line(bytes: &[u8], from: Cursor, low: u32, k: u32) -> ValueRead
     ensures { let s = bytes.now in
         value_line_told s result ≡ line k (value_line (remaining s from)) (value_meaning low) read }

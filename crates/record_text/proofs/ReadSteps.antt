@@ -9,8 +9,14 @@ use native.Mathlib.Numerals.{add-one}
 use lib.ListN.{length, get_or, drop, drop_of_length-le}
 use lib.Seq.{drop-cons}
 use lib.IntN.{ℤ, pos, negsuc}
+use lib.Signed.{mag}
+use mir.Syntax.{w32}
+use mir.Val.{to_z, of_z}
+use Rattle.record_text.proofs.SignLaws.{word_back}
 use lib.Dec.{ltb, eqb}
 use borrow.Author.Tests.{ltb-true, eq-eqb, ne_eqb}
+use Rattle.record_text.specs.declared.cursor.Cursor.{Cursor}
+use Rattle.record_text.specs.Told.{remaining}
 use Rattle.record_text.specs.Numeral.{numeral_end}
 use Rattle.record_text.specs.Parsed.{Parsed, bad_form, found, and_then}
 use Rattle.record_text.specs.Field.{digit_in, if_digit, more_digits, digit_room, number, after_minus, after_none, signed}
@@ -146,3 +152,17 @@ module _ (m : Bool) (e : ℕ) (s : List ℕ) (at : ℕ) (h : at < length s) (x :
 
   pub signed-bad : x ≡ false → number e (drop at s) ≡ bad_form → bad_form ≡ signed m e (drop at s)
   signed-bad b n = rw (signed-none b, n)
+
+-- a minus and a numeral of 0, or of another number
+pub signed_zero :
+    (m : Bool) (e : ℕ) (s : List ℕ) (from : Cursor) {x : Bool} {v : ℕ} {u : List ℕ} → from.at < length s
+    → x ≡ (m && eqb (get_or s from.at 0) 45) → x ≡ true → found v u ≡ number e (remaining s (record { at = from.at + 1 })) → v ≡ 0
+    → bad_form ≡ signed m e (remaining s from)
+signed_zero m e s from {x} {v} {u} h test b n z = signed-minus-zero m e s from.at h x test v u b (sym n) z
+
+pub signed_below :
+    (m : Bool) (e : ℕ) (s : List ℕ) (from : Cursor) {x : Bool} {v : ℕ} {u : List ℕ} {z : ℤ} → from.at < length s
+    → x ≡ (m && eqb (get_or s from.at 0) 45) → x ≡ true → found v u ≡ number e (remaining s (record { at = from.at + 1 })) → (v ≡ 0 → ⊥)
+    → z ≡ negsuc (v - 1) → mag z < 2 ^ 31 → found (to_z w32 (of_z w32 z)) u ≡ signed m e (remaining s from)
+signed_below m e s from {x} {v} {u} {z} h test b n nz q f =
+    signed-negative m e s from.at h x test v u (to_z w32 (of_z w32 z)) b (sym n) nz (word_back z (record { sfits = f }) ∙ q)

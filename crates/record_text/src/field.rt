@@ -91,6 +91,7 @@ fn is_minus(minus: bool, b: u8) -> bool
 }
 
 // A numeral, or where a minus may stand, a minus and a nonzero numeral; and the byte `end` after it.
+#[tactic(auto, using(crate::proofs::ReadSteps::signed_zero, crate::proofs::ReadSteps::signed_below))]
 pub(crate) fn read_signed(bytes: &[u8], from: Cursor, minus: bool, end: u8) -> SignedRead
     ensures { signed_told bytes.now result ≡ signed minus end (remaining bytes.now from) }
 {

@@ -63,14 +63,14 @@ loop-i-preserved c =
 last : (c : goal.After-loop-i) → c.loop-i.i ≡ blocks_of c.args.from.sheet
 last c = omega (arith, c.loop-i-test.false, c.loop-i.invariant.1, c.blocks-m.ensures)
 
+pub returns : goal.returns
+returns c =
+    let p = goal.at.returns c in
+    let a = c.args in
+    turned-done (aids p.Start) a.table.now a.from a.bytes.now (old p.Start) c.loop-i.invariant.0 (last p.After-loop-i) (omega arith)
+
 pub returns-then-r-bytes : goal.returns-then-r-bytes
 returns-then-r-bytes c =
     let p = goal.at.returns-then-r-bytes c in
     let a = c.args in
     turned-past (aids p.Start) a.table.now a.from a.bytes.now (old p.Start) c.loop-i.invariant.0 (last p.After-loop-i) c.if-r-bytes.true
-
-pub returns : goal.returns
-returns c =
-    let p = goal.at.returns c in
-    let a = c.args in
-    turned-done (aids p.Start) a.table.now a.from a.bytes.now (old p.Start) c.loop-i.invariant.0 (last p.After-loop-i) c.if-r-bytes.false

@@ -3,26 +3,17 @@ use mathlib.Core.Path.{sym, ◌∙◌}
 use native.Mathlib.Omega.{arith}
 use Rattle.record_text.proofs.FieldLaws.{number-wrote}
 use Rattle.record_text.proofs.SignLaws.{word_back}
-use Rattle.record_text.proofs.ReadSteps.{past, signed-nil, signed-negative, signed-minus-zero, signed-minus-bad, signed-positive, signed-bad}
+use Rattle.record_text.proofs.ReadSteps.{past, signed-nil, signed-minus-bad, signed-positive, signed-bad}
 use Rattle.record_text.proofs.field.read_signed.Goals as goal
 
 pub returns-then-bytes-at : goal.returns-then-bytes-at
 returns-then-bytes-at c = sym (signed-nil _ _ _ (past _ _ c.if-bytes-at.true))
 
-pub returns-then-v-eq0 : goal.returns-then-v-eq0
-returns-then-v-eq0 c =
-    signed-minus-zero _ _ _ _ c.if-bytes-at.false _ c.is_minus.ensures _ _ c.if-is_minus.true (sym c.in-Value.ensures) c.if-v-eq0.true
-
 pub negative-z-requires : goal.negative-z-requires
-negative-z-requires c = (omega (arith, c.if-v-eq0.false), (number-wrote _ _ _ _ (sym c.in-Value.ensures)).1)
+negative-z-requires c = (omega arith, (number-wrote _ _ _ _ (sym c.in-Value.ensures)).1)
 
 pub positive-z-requires : goal.positive-z-requires
 positive-z-requires c = (number-wrote _ _ _ _ (sym c.in-Value-n.ensures)).1
-
-pub returns-else-v-eq0 : goal.returns-else-v-eq0
-returns-else-v-eq0 c =
-    signed-negative _ _ _ _ c.if-bytes-at.false _ c.is_minus.ensures _ _ _ c.if-is_minus.true (sym c.in-Value.ensures) c.if-v-eq0.false
-    (word_back _ (record { sfits = c.negative-z.type_inv }) ∙ c.negative-z.ensures)
 
 pub returns-in-Bad : goal.returns-in-Bad
 returns-in-Bad c = signed-minus-bad _ _ _ _ c.if-bytes-at.false _ c.is_minus.ensures c.if-is_minus.true (sym c.in-Bad.ensures)
