@@ -1,14 +1,30 @@
 -- Laws of blocks, over the capacity m and the size n.
-use Prim.Native.Nat.{ℕ, ◌*◌, ◌/◌, ◌%◌, ◌≤◌, ◌<◌}
-use mathlib.Core.List.{List, []}
+use Prim.Native.Nat.{ℕ, zero, suc, ◌+◌, ◌*◌, ◌/◌, ◌%◌, ◌≤◌, ◌<◌}
+use mathlib.Core.List.{List, [], ◌∷◌, ◌++◌}
 use mathlib.Core.Path.{◌≡◌, sym, ap, ap₂, ◌∙◌}
+use native.Mathlib.Omega.{arith}
 use lib.Arith.{digits_div, digits_mod}
-use lib.ListN.{length, get_or, replicate}
+use lib.ListN.{length, get_or, drop, replicate}
 use Rattle.arith.specs.Lists.{list_of, upto}
 use Rattle.arith.specs.Square.{place, transposed_list}
-use Rattle.arith.proofs.ListLaws.{list_of-at, list_of-ext, list_of-own, upto-at, upto-ext}
-use Rattle.arith.proofs.SquareLaws.{column-lt, row_lt, place-lt, place-own, length-transposed, transposed-at}
-use Rattle.block.specs.Block.{sample, block_by, block_of, transposed_block, samples_of}
+use Rattle.arith.proofs.ListLaws.{list_of-at, list_of-ext, list_of-own, upto-none, upto-at, upto-ext}
+use Rattle.arith.proofs.SquareLaws.{column-lt, row_lt, place-lt, place-own, square_le, length-transposed, transposed-at}
+use Rattle.pattern.specs.Answer.{samples_refusal}
+use Rattle.pattern.proofs.AnswerLaws.{samples-fit}
+use Rattle.block.specs.Block.{capacity, sample, block_by, block_of, transposed_block, samples_of}
+
+-- places filled up to n, and the others as they were
+module _ {A : Type 0} where
+  pub filled_up :
+      (m n : ℕ) (f : ℕ → A) (z : A) (l : List A) → length l ≡ n → n ≤ m → ((k : ℕ) → k < n → get_or l k z ≡ f k)
+      → l ++ drop n (replicate m z) ≡ upto m n f z
+  unfolding upto
+  filled_up m zero f z [] e h p = sym (upto-none m f z)
+  filled_up m zero f z (a ∷ l) e h p = absurd (omega arith)
+  filled_up m (suc n) f z [] e h p = absurd (omega arith)
+  filled_up zero (suc n) f z (a ∷ l) e h p = absurd (omega arith)
+  filled_up (suc m) (suc n) f z (a ∷ l) e h p =
+      ap₂ (λ (b : A) (r : List A). b ∷ r) (p 0 (omega arith)) (filled_up m n (λ i. f (suc i)) z l (omega arith) (omega arith) (λ k lt. p (suc k) (omega arith)))
 
 -- sample (x, y) of the block of f is f x y
 pub sample-at : (m n : ℕ) (f : ℕ → ℕ → ℕ) (x y : ℕ) → n ≤ m → x < n → y < n → sample (block_by m n f) x y ≡ f x y
@@ -58,3 +74,10 @@ samples-at n b x y hx hy =
 pub samples-transposed : (m n : ℕ) (s : List ℕ) → n ≤ m → samples_of n (transposed_block m n (block_of m n s)) ≡ transposed_list n s
 samples-transposed m n s h =
     ap (samples_of n) (sym (block_transposed m n s h)) ∙ samples-again m n (transposed_list n s) h (length-transposed n s)
+
+-- where no check fails, a block has room for its rows and columns, and there is a sample for each place
+pub fits : (n samples : ℕ) → 0 ≡ samples_refusal n samples → (n ≤ capacity) × (samples ≡ n * n)
+fits n samples h = let f = samples-fit n samples (sym h) in (f.high, f.square)
+
+pub place_fits : (n x y samples : ℕ) → 0 ≡ samples_refusal n samples → x < n → y < n → (y * n + x < samples) × (samples ≤ 256)
+place_fits n x y samples h hx hy = let f = fits n samples h in omega (arith, place-lt n x y hx hy, square_le {m = capacity} f.0)

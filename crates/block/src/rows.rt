@@ -1,12 +1,12 @@
 // A block as an array of row arrays, filled up to its size.
-ghost use Rattle.std.specs.Prelude.{◌≡◌, ◌+◌, ◌*◌, ◌<◌, ◌≤◌, length, get_or};
+ghost use Rattle.std.specs.Prelude.{ℕ, ◌≡◌, ◌+◌, ◌*◌, ◌<◌, ◌≤◌, length};
 ghost use Rattle.arith.specs.Lists.{upto};
-ghost use Rattle.arith.specs.Square.{place};
-ghost use Rattle.block.specs.Block.{capacity, sample, block_of, transposed_block, samples_of};
 ghost use Rattle.pattern.specs.Answer.{samples_refusal};
+ghost use Rattle.pattern.specs.Refusal.{refusal_in};
+ghost use Rattle.block.specs.Block.{capacity, block_by, samples_of};
 ghost use Rattle.block.specs.Answer.{block_after, size_refusal, transposed_after, samples_after};
 
-use pattern::{samples_refusal, size_ok};
+use pattern::{Refusal, check, check_samples, size_ok};
 
 // The rows and columns that a block has room for.
 pub const CAPACITY: usize = pattern::GREATEST_SIZE;
@@ -14,97 +14,76 @@ pub const CAPACITY: usize = pattern::GREATEST_SIZE;
 // Sample (x, y) is b[y][x].
 pub type Block = [[u8; CAPACITY]; CAPACITY];
 
-// Row y of n rows of n samples.
-fn row(n: usize, samples: &[u8], y: usize) -> [u8; CAPACITY]
-    requires { (n ≤ capacity) × (y < n) × (length samples.now ≡ n * n) }
-    ensures { result ≡ upto capacity n (λ x. get_or samples.now (place n x y) 0) 0 }
+// The row whose sample x is f(x), with 0 past its n samples.
+fn row_by<F: Fn(usize) -> u8>(n: usize, f: F) -> [u8; CAPACITY]
+    requires size { n ≤ capacity }
+    requires calls { (x : ℕ) → x < n → F.pre f x }
+    ensures { (g : ℕ → ℕ) → ((x s : ℕ) → x < n → F.post f x s → s ≡ g x) → result ≡ upto capacity n g 0 }
 {
-    let mut r = [0u8; CAPACITY];
-    for x in 0..n {
-        r[x] = samples[y * n + x];
+    let mut row = [0; CAPACITY];
+    for (x, sample) in row[..n].iter_mut().enumerate() {
+        *sample = f(x);
     }
-    r
+    row
 }
 
-// The block of n * n samples that come row by row.
-fn rows_of(n: usize, samples: &[u8]) -> Block
-    requires { (n ≤ capacity) × (length samples.now ≡ n * n) }
-    ensures { result ≡ block_of capacity n samples.now }
+// The block whose sample (x, y) is f(x, y), with 0 past its n rows and columns.
+fn block_by<F: Fn(usize, usize) -> u8>(n: usize, f: F) -> Block
+    requires size { n ≤ capacity }
+    requires calls { (x y : ℕ) → x < n → y < n → F.pre f x y }
+    ensures { (g : ℕ → ℕ → ℕ) → ((x y s : ℕ) → x < n → y < n → F.post f x y s → s ≡ g x y) → result ≡ block_by capacity n g }
 {
-    let mut b = [[0u8; CAPACITY]; CAPACITY];
-    for y in 0..n {
-        b[y] = row(n, samples, y);
+    let mut b = [[0; CAPACITY]; CAPACITY];
+    for (y, row) in b[..n].iter_mut().enumerate() {
+        *row = row_by(
+            n,
+            |x|
+                requires { F.pre f x y }
+                ensures { F.post f x y result }
+            { f(x, y) },
+        );
     }
     b
 }
 
-// Makes b the block of n * n samples that come row by row; the answer is the refusal, 1 or 2, which alters nothing, or 0.
-pub fn block_of(n: usize, samples: &[u8], b: &mut Block) -> u8
+// Makes b the block of n * n samples that come row by row; a refusal, 1 or 2, alters nothing.
+#[tactic(auto, using(crate::proofs::BlockLaws::fits, crate::proofs::BlockLaws::place_fits), unfolding(crate::specs::Answer::block_after))]
+pub fn block_of(n: usize, samples: &[u8], b: &mut Block) -> Result<(), Refusal>
     ensures { let s = samples.now in
-        (result ≡ samples_refusal n (length s)) × (b.new ≡ block_after n s b.old) }
+        (refusal_in result ≡ samples_refusal n (length s)) × (b.new ≡ block_after n s b.old) }
 {
-    let refusal = samples_refusal(n, samples.len());
-    if refusal != 0 {
-        return refusal;
-    }
-    *b = rows_of(n, samples);
-    0
+    check_samples(n, samples.len())?;
+    *b = block_by(n, |x, y| samples[y * n + x]);
+    Ok(())
 }
 
-// Column x of a block.
-fn column(n: usize, b: Block, x: usize) -> [u8; CAPACITY]
-    requires { (n ≤ capacity) × (x < n) }
-    ensures { result ≡ upto capacity n (λ y. sample b x y) 0 }
+// Transposes the block over its main diagonal, with 0 past its n rows and columns; refusal 1 alters nothing.
+#[tactic(auto, unfolding(crate::specs::Answer::size_refusal, crate::specs::Answer::transposed_after))]
+pub fn transpose(n: usize, b: &mut Block) -> Result<(), Refusal>
+    ensures { (refusal_in result ≡ size_refusal n) × (b.new ≡ transposed_after n b.old) }
 {
-    let mut r = [0u8; CAPACITY];
-    for y in 0..n {
-        r[y] = b[y][x];
-    }
-    r
+    check(size_ok(n), Refusal::Size)?;
+    *b = block_by(n, |x, y| b[x][y]);
+    Ok(())
 }
 
-// The block transposed: its columns become rows.
-fn columns_of(n: usize, b: Block) -> Block
-    requires { n ≤ capacity }
-    ensures { result ≡ transposed_block capacity n b }
-{
-    let mut t = [[0u8; CAPACITY]; CAPACITY];
-    for x in 0..n {
-        t[x] = column(n, b, x);
-    }
-    t
-}
-
-// Transposes the block over its main diagonal, with 0 past its n rows and columns; the answer is refusal 1, which alters nothing, or 0.
-pub fn transpose(n: usize, b: &mut Block) -> u8
-    ensures { (result ≡ size_refusal n) × (b.new ≡ transposed_after n b.old) }
-{
-    if !size_ok(n) {
-        return 1;
-    }
-    *b = columns_of(n, *b);
-    0
-}
-
-// The samples of a block row by row, written to the lent slice.
+// The samples of a block row by row, written to the slice.
 fn put_samples(n: usize, b: Block, samples: &mut [u8])
     requires { (n ≤ capacity) × (length samples.old ≡ n * n) }
     ensures { samples.new ≡ samples_of n b }
 {
-    for k in 0..n * n {
-        samples[k] = b[k / n][k % n];
+    for (k, sample) in samples.iter_mut().enumerate() {
+        *sample = b[k / n][k % n];
     }
 }
 
-// The samples of a block row by row, written to the lent slice; the answer is the refusal, 0 for none.
-pub fn write_block(n: usize, b: Block, samples: &mut [u8]) -> u8
+// The samples of a block row by row, written to the lent slice; a refusal, 1 or 2, alters nothing.
+#[tactic(auto, using(crate::proofs::BlockLaws::fits), unfolding(crate::specs::Answer::samples_after))]
+pub fn write_block(n: usize, b: Block, samples: &mut [u8]) -> Result<(), Refusal>
     ensures { let old = samples.old in
-        (result ≡ samples_refusal n (length old)) × (samples.new ≡ samples_after n b old) }
+        (refusal_in result ≡ samples_refusal n (length old)) × (samples.new ≡ samples_after n b old) }
 {
-    let refusal = samples_refusal(n, samples.len());
-    if refusal != 0 {
-        return refusal;
-    }
+    check_samples(n, samples.len())?;
     put_samples(n, b, samples);
-    0
+    Ok(())
 }

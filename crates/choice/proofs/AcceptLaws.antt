@@ -5,12 +5,14 @@ use mathlib.Core.Bool.{Bool, true, false, ◌||◌, or-true}
 use mathlib.Core.List.{List}
 use mathlib.Core.Logic.{◌⊎◌, inl, inr, ⊎_elim}
 use native.Mathlib.Omega.{arith}
-use lib.Dec.{eqb, leb, ltb}
+use lib.Dec.{eqb, ltb}
+use Rattle.std.specs.Bool.{MatchBool}
+use Rattle.std.specs.List.{range_with_len, AllWithin, HoldsAt}
+use Rattle.std.proofs.lemmas.List.FromFn.{length-range_with_len, get_or-range_with_len}
 use lib.ListN.{length, get_or}
 use borrow.Author.Tests.{eq-eqb, eqb-true, le-leb, leb-true, lt-ltb, ltb-true}
-use Rattle.arith.specs.Checks.{unless}
 use Rattle.arith.proofs.Bools.{both_of, either-of, clash}
-use Rattle.arith.proofs.CheckLaws.{holds, passes, checked}
+use Rattle.arith.proofs.CheckLaws.{holds, passes}
 use Rattle.arith.proofs.LeastLaws.{last-or-below}
 use Rattle.depth_table.specs.Table.{table_ok}
 use Rattle.pattern.specs.Size.{greatest_size, size_ok, word_ok}
@@ -18,7 +20,7 @@ use Rattle.pattern.proofs.SizeLaws.{size-bounds}
 use Rattle.choice.specs.Case.{Case}
 use Rattle.pattern.specs.Answer.{count_ok, texture_ok, textured}
 use Rattle.pattern.proofs.AnswerLaws.{texture-is, is-texture, count-is, is-count}
-use Rattle.choice.specs.Refusal.{lengths_ok, words_ok, choose_refusal, case_lengths_ok, choose_checks}
+use Rattle.choice.specs.Refusal.{lengths_ok, words_ok, choose_refusal, choose_checks}
 
 -- ---- lengths
 
@@ -78,6 +80,25 @@ words-bad n list k i l e = go (words_ok n list k) refl
     go true h = clash (sym (words-at n list k h i l) ∙ e)
     go false h = refl
 
+range-at : (count k : ℕ) → k < count → get_or (range_with_len 0 count) k 0 ≡ k
+range-at count k l = get_or-range_with_len 0 count k 0 l ∙ omega arith
+
+-- what `all` over the entries finds
+pub words-found :
+    (n : ℕ) (list : List ℕ) (count : ℕ) (r : Bool) → let l = range_with_len 0 count in
+    MatchBool r (AllWithin (λ k. word_ok n (get_or list k 0) ≡ true) l 0 (length l))
+    ((k : ℕ) × (k < length l) × HoldsAt (λ k. word_ok n (get_or list k 0) ≡ false) l k)
+    → r ≡ words_ok n list count
+words-found n list count true h =
+    let e = length-range_with_len 0 count in
+    sym (words-all n list count (λ i l.
+    let g = range-at count i l in
+    rw g at (h i 0 (omega arith) (omega (arith, e)))))
+words-found n list count false h =
+    let e = length-range_with_len 0 count in
+    let l : h.0 < count = omega (arith, e, h.1) in
+    sym (words-bad n list count h.0 l (rw (range-at count h.0 l) at (h.2 0)))
+
 -- ---- all checks
 
 pub record Accepted (C : Case) : Type 0 where
@@ -126,24 +147,9 @@ accept C k =
       ),
     )
 
--- ---- the refusal as the code finds it
+-- ---- a size that is not allowed
 
 module _ (C : Case) where
   pub refused-size : size_ok C.n ≡ false → 1 ≡ choose_refusal C
   unfolding choose_refusal
   refused-size h = rw h
-
-  pub refused-length : size_ok C.n ≡ true → case_lengths_ok C ≡ false → 2 ≡ choose_refusal C
-  unfolding choose_refusal
-  refused-length ok h = rw (ok, h)
-
-  -- the checks after the lengths, the last one first
-  pub refused-rest :
-      size_ok C.n ≡ true → case_lengths_ok C ≡ true → {table words some : Bool} {r₃ r₅ r₄ r₁₀ : ℕ}
-      → some ≡ ltb 0 C.count || textured C.texture → r₁₀ ≡ unless some 10 0 → r₄ ≡ unless (leb C.reach 255) 4 r₁₀
-      → words ≡ words_ok C.n C.list C.count → r₅ ≡ unless words 5 r₄ → table ≡ table_ok C.table → r₃ ≡ unless table 3 r₅
-      → r₃ ≡ choose_refusal C
-  unfolding choose_refusal
-  refused-rest ok lengths es e₁₀ e₄ ew e₅ et e₃ =
-      rw (ok, lengths)
-      (checked 3 e₃ et (checked 5 e₅ ew (checked 4 {a = leb C.reach 255} e₄ refl (checked 10 e₁₀ es refl))))

@@ -1,7 +1,8 @@
 -- A partition's depth is that of its case.
 use Prim.Native.Nat.{ℕ, suc, ◌+◌, ◌-◌, ◌*◌, ◌/◌, ◌%◌, ◌^◌, ◌≤◌, ◌<◌}
 use mathlib.Core.Path.{◌≡◌, refl, sym, ap, ap₂, ◌∙◌}
-use mathlib.Core.Bool.{Bool, true, false, cond}
+use mathlib.Core.Bool.{Bool, true, false, cond, not, beq}
+use mir.Val.{bool_byte}
 use mathlib.Core.List.{List}
 use native.Mathlib.Nat.{mul-le-mul, pow-suc, mod-eq_of_lt}
 use native.Mathlib.Omega.{arith}
@@ -120,17 +121,28 @@ unfolding side_depth side_case lt br
 depth-case n w s m ok = in-case n s (size-bounds n ok).0 (differ m (mark n w 0 0)) (vert_edge n w) (hor_edge n w)
 
 -- the number as the code makes it, from the marks of three corners
+unequal : (a b : Bool) → bool_byte (not (beq a b)) ≡ bit (differ a b)
+unequal true true = refl
+unequal true false = refl
+unequal false true = refl
+unequal false false = refl
+
 pub case-by :
-    (n w : ℕ) (m : Bool) {a b d : ℕ} {x y z : Bool} → x ≡ test_bit w 0 → y ≡ test_bit w (n - 1) → z ≡ test_bit w ((n - 1) * n) → a ≡ bit (differ m x)
-    → b ≡ bit (differ x y) → d ≡ bit (differ x z) → 4 * a + (2 * b + d) ≡ side_case n w m
+    (n w : ℕ) (m : Bool) {a b d : ℕ} {x y z : Bool} → x ≡ test_bit w 0 → y ≡ test_bit w (n - 1) → z ≡ test_bit w ((n - 1) * n)
+    → a ≡ bool_byte (not (beq m x)) → b ≡ bool_byte (not (beq x y)) → d ≡ bool_byte (not (beq x z))
+    → 4 * a + (2 * b + d) ≡ side_case n w m
 unfolding side_case
-case-by n w m ex ey ez ea eb ed =
+case-by n w m {x = x} {y = y} {z = z} ex ey ez ea eb ed =
     omega (
       arith,
-      ea ∙ ap (λ (t : Bool). bit (differ m t)) (ex ∙ sym (origin-bit n w)),
-      eb ∙ ap bit (ap₂ differ ex ey ∙ sym (vert-edge-bits n w)),
-      ed ∙ ap bit (ap₂ differ ex ez ∙ sym (hor-edge-bits n w)),
+      ea ∙ unequal m x ∙ ap (λ (t : Bool). bit (differ m t)) (ex ∙ sym (origin-bit n w)),
+      eb ∙ unequal x y ∙ ap bit (ap₂ differ ex ey ∙ sym (vert-edge-bits n w)),
+      ed ∙ unequal x z ∙ ap bit (ap₂ differ ex ez ∙ sym (hor-edge-bits n w)),
     )
+
+pub case_lt : (n w : ℕ) (m : Bool) → side_case n w m < 8
+unfolding side_case
+case_lt n w m = omega (arith, digit_lt (differ m (mark n w 0 0)), digit_lt (vert_edge n w), digit_lt (hor_edge n w))
 
 -- the other partition has the case four numbers on
 other-by : (b v h : Bool) → (4 * bit (differ false b) + (2 * bit v + bit h) + 4) % 8 ≡ 4 * bit (differ true b) + (2 * bit v + bit h)

@@ -12,7 +12,8 @@ use lib.Bits.{bit_and, bit_xor, xor_lt}
 use lib.Count.{ones}
 use lib.ListN.{length, get_or}
 use lib.Dec.{ltb}
-use borrow.Author.Tests.{lt-ltb}
+use native.Mathlib.Decide.{dec_lt}
+use borrow.Author.Tests.{lt-ltb, le-leb, lt-leb}
 use Rattle.arith.specs.Bits.{bit, test_bit}
 use Rattle.arith.specs.Distance.{dist}
 use Rattle.arith.proofs.BitLaws.{bits-lt, bits_at}
@@ -23,7 +24,7 @@ use Rattle.choice.specs.Cost.{side_cost}
 use Rattle.choice.specs.Tally.{side_count, side_size, side_below}
 use Rattle.choice.specs.Layers.{layer_at, below_word, Parted}
 use Rattle.choice.specs.Trial.{Better, TrialOf}
-use Rattle.choice.specs.Turn.{Convex, BestLevel, twice, Turn, UpTried, DownTried, offset_cost, Findable}
+use Rattle.choice.specs.Turn.{Convex, BestLevel, twice, Turn, UpTried, DownTried, offset_cost, Findable, number_to}
 use Rattle.choice.proofs.LayerLaws.{xor-bit, below-count}
 use Rattle.choice.proofs.TallyLaws.{cost_step, below_step}
 use Rattle.choice.proofs.TurnLaws.{up_next, up-last, down-next, down-last, best-here, number_up, number-down}
@@ -43,12 +44,6 @@ pub twice-by :
     (below : List ℕ) (word : ℕ) (table : List ℕ) (plus j : ℕ) {n u : ℕ} → n ≡ ones (bit_and word (layer_at below u)) → u ≡ get_or table j 0 + plus
     → 2 * n ≡ twice below word table plus j
 twice-by below word table plus j e q = ap (λ (x : ℕ). 2 * x) (e ∙ ap (λ (x : ℕ). ones (bit_and word (layer_at below x))) q)
-
--- a cost at a value, as the code reads it from the table
-pub cost-by :
-    (samples : List ℕ) (word : ℕ) {cost v x : ℕ} → cost ≡ side_cost (length samples) samples word true v → v ≡ x
-    → cost ≡ side_cost (length samples) samples word true x
-cost-by samples word e q = e ∙ ap (side_cost (length samples) samples word true) q
 
 -- what is better, with the costs as the definition has them
 pub better-by :
@@ -98,12 +93,16 @@ module _ (c : ℕ) (samples : List ℕ) (w : ℕ) (small : w < 2 ^ c) where
     sizes-whole =
         sym (sum-add _ _ c) ∙ sum-ext _ (λ _. 1) c (λ k l. rw (part-bit k l) (one_of (test_bit w k))) ∙ sum_ones c
 
--- the last index in reach
-pub last-in : (count i R : ℕ) → i < count → i + min R (count - 1 - i) ≡ min (i + R) (count - 1)
-last-in count i R h = omega arith
+-- the number of the offset to an index above or below
+number-above : (i j : ℕ) → i ≤ j → number_to i j ≡ 2 * (j - i)
+number-above i j h = rw (le-leb i j h)
 
-pub end-in : (i R : ℕ) → i - min R i ≡ i - R
-end-in i R = omega arith
+number-under : (i j : ℕ) → j ≤ i → number_to i j ≡ 2 * (i - j) - 1
+number-under i j h = go (dec_lt j i)
+  where
+    go : Dec (j < i) → number_to i j ≡ 2 * (i - j) - 1
+    go (yes l) = rw (lt-leb i j l)
+    go (no l) = rw (le-leb i j (omega arith)) (omega arith)
 
 module _ (samples below sums : List ℕ) (word size sum : ℕ) (q : Parted samples below sums word size sum) (table : List ℕ) (i R : ℕ) (f : Findable table i R) where
   abbrev c : ℕ
@@ -213,7 +212,7 @@ module _ (samples below sums : List ℕ) (word size sum : ℕ) (q : Parted sampl
       (omega arith)
       ec
 
-  -- the same from what `best_up` and `best_down` ensure
+  -- the same from the turn and the better of the levels next to it
   pub up-found :
       {last number cost : ℕ} → last ≡ hi → twice below word table 1 i < size → UpTried samples below word size table i last number cost
       → TrialOf (offset_cost samples word true table i) (2 * R) number cost
@@ -223,3 +222,30 @@ module _ (samples below sums : List ℕ) (word size sum : ℕ) (q : Parted sampl
       {end number cost : ℕ} → end ≡ lo → size < twice below word table 0 i → DownTried samples below word size table i end number cost
       → TrialOf (offset_cost samples word true table i) (2 * R) number cost
   down-found e d t = down-trial t.l _ _ d (subst (λ (x : ℕ). Turn below word (size + 1) table 0 x i t.l) e t.turned) refl refl t.better
+
+  -- what the code finds upward: the turn, and the better of the levels next to it by the offsets that lead there
+  module _ {last l : ℕ} (d : twice below word table 1 i < size) (t : Turn below word size table 1 i last l) where
+    pub up-farther : l + 1 < count → dist (T (l + 1)) (T l) ≡ 1 → F (l + 1) < F l
+    up-farther h e = up-adjacent l last d t (let r = rising l (l + 1) (omega arith) h in omega (arith, r, e))
+
+    pub up-tried :
+        {number cost : ℕ} → Better (number_to i l) (F l) (number_to i (l + 1)) (F (l + 1)) number cost
+        → UpTried samples below word size table i last number cost
+    up-tried b =
+        let h = t.low in
+        record { l = l; turned = t; better = rw (number-above i l h, number-above i (l + 1) (omega arith)) at b }
+
+  -- and downward
+  module _ {end l : ℕ} (d : size < twice below word table 0 i) (t : Turn below word (size + 1) table 0 end i l) where
+    pub down-farther : dist (T l) (T (l + 1)) ≡ 1 → F l < F (l + 1)
+    down-farther e =
+        let h = t.high in
+        let g = f.inside in
+        down-adjacent l end d t (let r = rising l (l + 1) (omega arith) (omega arith) in omega (arith, r, e))
+
+    pub down-tried :
+        {number cost : ℕ} → Better (number_to i (l + 1)) (F (l + 1)) (number_to i l) (F l) number cost
+        → DownTried samples below word size table i end number cost
+    down-tried b =
+        let h = t.high in
+        record { l = l; turned = t; better = rw (number-under i (l + 1) (omega arith), number-under i l (omega arith)) at b }

@@ -4,21 +4,19 @@ use mathlib.Core.Path.{◌≡◌, refl, sym, ap, ◌∙◌}
 use mathlib.Core.Bool.{Bool, true, false, cond, not, ◌&&◌}
 use mathlib.Core.List.{List}
 use native.Mathlib.Nat.{lt_of_le_of_lt, lt_of_lt_of_le}
-use native.Mathlib.Decide.{dec_lt}
 use native.Mathlib.Omega.{arith}
 use lib.Bits.{bit_and, bit_xor, differ, and_shr, and_step, and_le_l, and_block, xor_shr, xor_step, xor_block}
 use lib.Count.{ones}
 use lib.Dec.{eqb, ltb}
 use lib.ListN.{get_or}
 use lib.Pow.{pow_mono}
-use borrow.Author.Tests.{lt-ltb, le-ltb}
 use Rattle.arith.specs.Bits.{bit, bits, test_bit}
 use Rattle.arith.specs.Sum.{sum_to}
 use Rattle.arith.proofs.BitLaws.{bits_at, ones-bits}
 use Rattle.arith.proofs.Sums.{sum-ext}
 use Rattle.pattern.specs.Words.{joined, four_words}
 use Rattle.choice.specs.Tally.{side_count, side_size, side_below}
-use Rattle.choice.specs.Layers.{below_word, Fits}
+use Rattle.choice.specs.Layers.{below_word}
 
 -- ---- the bits that two words share
 
@@ -104,12 +102,8 @@ pub four-and :
 four-and a b c d a' b' c' d' p q r p' q' r' = sym (by-words bit_and and_block a b c d a' b' c' d' p q r p' q' r')
 
 -- a pattern of at most 64 samples fits in one word
-pub fits-block : (c w : ℕ) → c ≤ 256 → w < 2 ^ c → Fits (ltb 64 c) w
-fits-block c w few small = go (dec_lt 64 c)
-  where
-    go : Dec (64 < c) → Fits (ltb 64 c) w
-    go (yes h) = rw (lt-ltb 64 c h) (lt_of_lt_of_le small (pow_mono few))
-    go (no h) = rw (le-ltb 64 c (omega arith)) (lt_of_lt_of_le small (pow_mono {i = c} {j = 64} (omega arith)))
+pub one-word : (c w : ℕ) → c ≤ 64 → w < 2 ^ c → w < 2 ^ 64
+one-word c w few small = lt_of_lt_of_le small (pow_mono few)
 
 and-true : (b : Bool) → b ≡ (b && true)
 and-true true = refl

@@ -19,3 +19,4 @@ pub mod TurnLaws
 pub mod BuildLaws
 pub mod FindLaws
 pub mod ReachLaws
+pub mod ToldLaws

@@ -2,7 +2,7 @@
 -- offsets.
 use Prim.Native.Nat.{ℕ, ◌+◌, ◌-◌, ◌*◌, ◌≤◌, ◌<◌, zero-le}
 use mathlib.Core.Path.{◌≡◌, refl, sym, ap, ap₂, subst, ◌∙◌}
-use mathlib.Core.Bool.{Bool, true, false, cond}
+use mathlib.Core.Bool.{Bool, true, false}
 use mathlib.Core.List.{List, [], ◌∷◌}
 use mathlib.Core.Logic.{◌⊎◌, inl, inr, ⊎_elim}
 use native.Mathlib.Decide.{dec_lt}
@@ -15,8 +15,15 @@ use Rattle.arith.proofs.BitLaws.{bits-ext, bits_none}
 use Rattle.arith.proofs.CheckLaws.{given-means, refused-means}
 use Rattle.arith.proofs.LeastLaws.{Kept, kept-one, kept_new, kept-old, kept-all}
 use Rattle.depth_table.proofs.TableLaws.{table-counts}
+use Rattle.std.specs.Prelude.{Result, Ok, Err}
+use Rattle.std.specs.Result.{result_unwrap_or}
+use Rattle.pattern.specs.Refusal.{told}
+use Rattle.pattern.specs.Words.{pattern_number}
+use Rattle.pattern.specs.declared.refusals.Refusal.{Refusal}
+use Rattle.pattern.specs.declared.words.Pattern.{Pattern}
 use Rattle.pattern.specs.Size.{size_ok, word_ok}
-use Rattle.pattern.specs.Answer.{samples_refusal, contour_answer}
+use Rattle.pattern.specs.Answer.{samples_refusal, contour_answer, textured}
+use Rattle.std.proofs.lemmas.Bool.{false≢true}
 use Rattle.pattern.specs.Contour.{threshold, contour_of}
 use Rattle.pattern.proofs.ContourLaws.{contour-lt}
 use Rattle.prediction.proofs.SideCallLaws.{sides-pass}
@@ -93,14 +100,23 @@ unfolding contour_answer
 contour-refused n t {k} h e q =
     ⊎_elim (λ z. contour-none n t z) (λ z. absurd ((refused-means (samples_refusal n (length t)) k (contour_of n t) (sym e ∙ q)).1 z)) h
 
-pub pattern-by :
-    (C : Case) (p : ℕ) {w contour : ℕ} → w ≡ cond (ltb p C.count) (get_or C.list p 0) contour → contour ≡ contour_of C.n C.texture
-    → w ≡ pattern_at C p
-pattern-by C p e q = e ∙ ap (λ (x : ℕ). cond (ltb p C.count) (get_or C.list p 0) x) q
+-- the contour that `contour` gives, or else no marks
+pub contour-or :
+    (n : ℕ) (t : List ℕ) (r : Result Pattern Refusal) (none : Pattern) → (length t ≡ 0) ⊎ (samples_refusal n (length t) ≡ 0)
+    → told pattern_number r ≡ contour_answer n t → pattern_number none ≡ 0 → pattern_number (result_unwrap_or r none) ≡ contour_of n t
+contour-or n t (Ok p) none h e z = contour-word n t e refl
+contour-or n t (Err r) none h e z = z ∙ contour-refused n t h e refl
 
-pub last-le : (b : Bool) (count : ℕ) → cond b count (count - 1) ≤ count
-last-le true count = omega arith
-last-le false count = omega arith
+-- how many patterns there are: with texture one more than entries, and without it as many, of which there is one at least
+pub entries-contour : (C : Case) → 0 < length C.texture → C.count + 1 ≡ last_pattern C + 1
+entries-contour C h = rw (lt-ltb 0 (length C.texture) h)
+
+pub entries-alone : (C : Case) → Accepted C → length C.texture ≡ 0 → C.count ≡ last_pattern C + 1
+entries-alone C k e =
+    ⊎_elim (λ (h : 0 < C.count). rw (none-textured e) (omega arith)) (λ t. absurd (false≢true (sym (none-textured e) ∙ t))) k.some
+  where
+    none-textured : length C.texture ≡ 0 → textured C.texture ≡ false
+    none-textured e = le-ltb 0 (length C.texture) (omega arith)
 
 -- ---- every pattern of an accepted case can be weighed
 

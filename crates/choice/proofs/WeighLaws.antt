@@ -18,8 +18,7 @@ use Rattle.depth_table.specs.Offset.{level_of}
 use Rattle.choice.specs.Offset.{offset}
 use Rattle.choice.specs.Case.{reach_in_use}
 use Rattle.choice.specs.Cost.{side_cost}
-use Rattle.choice.specs.Layers.{layer_at, below_word, Parted}
-use Rattle.choice.specs.Sums.{marked_sum}
+use Rattle.choice.specs.Layers.{layer_at, below_word}
 use Rattle.choice.specs.Tally.{side_size}
 use Rattle.choice.specs.Trial.{TrialOf}
 use Rattle.choice.specs.Turn.{offset_cost, Findable}
@@ -53,7 +52,7 @@ module _ (n w : ℕ) (s o t : List ℕ) (R : ℕ) (h : Weighable n w s o t R) wh
     pub others-small : {part : ℕ} → part ≡ bit_xor (layer_at below 256) w → part < 2 ^ length o
     others-small ep = rw (others-are ep) (part-lt (length o) o w word_small false)
 
-    -- the part of its marks, and the part of all others
+    -- so many samples are marked, and all others are not
     module _ {size : ℕ} (e : size ≡ ones w) where
       size_is : size ≡ side_size (length o) o w true
       size_is = e ∙ size-count (length o) o w word_small
@@ -61,19 +60,11 @@ module _ (n w : ℕ) (s o t : List ℕ) (R : ℕ) (h : Weighable n w s o t R) wh
       pub size-le : size ≤ length o
       size-le = omega (arith, size_is, count-le o w true (length o) (λ x. true))
 
-      pub parted-marked : {sum : ℕ} → sum ≡ marked_sum (λ k. get_or o k 0) w (length o) → Parted o below sums w size sum
-      parted-marked es = record { layers = q.layers; small = word_small; its_size = size_is; its_sum = es }
-
-      pub parted-others :
-          {part sum : ℕ} → part ≡ bit_xor (layer_at below 256) w → sum ≡ marked_sum (λ k. get_or o k 0) part (length o)
-          → Parted o below sums part (length o - size) sum
-      parted-others {part} ep es =
-          record {
-            layers = q.layers;
-            small = others-small ep;
-            its_size = rw (others-are ep) (omega (arith, size_is, sizes-whole (length o) o w word_small bytes));
-            its_sum = es;
-          }
+      pub size-others : {part : ℕ} → part ≡ bit_xor (layer_at below 256) w → length o - size ≡ ones part
+      size-others {part} ep =
+          let n = size-count (length o) o part (others-small ep) in
+          let m = ap (λ (x : ℕ). side_size (length o) o x true) (others-are ep) in
+          omega (arith, size_is, n, m, sizes-whole (length o) o w word_small bytes)
 
     module _ (m : Bool) {j part : ℕ} (ej : j ≡ side_case n w m) (hj : j < 8) (ep : part ≡ cond m w (bit_xor (layer_at below 256) w)) where
       abbrev i : ℕ

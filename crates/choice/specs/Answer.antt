@@ -7,7 +7,6 @@ use Rattle.choice.specs.Record.{LeastRecord}
 use Rattle.record.specs.declared.Record.{Record}
 use Rattle.choice.specs.Search.{chosen, tried, TriedInAll}
 use Rattle.choice.specs.declared.Choice.{Choice}
-use Rattle.choice.specs.declared.Choice.TheVariants.{Chosen, Refused}
 
 -- the chosen record, its cost, and how many offsets were tried
 abbrev pub chosen_all : Case → Record × ℕ × ℕ
@@ -17,10 +16,9 @@ chosen_all C = ((chosen C).0, (chosen C).1, tried C)
 unfoldable pub choose_answer : Case → Answer (Record × ℕ × ℕ)
 choose_answer C = answer (choose_refusal C) (chosen_all C)
 
--- the papers' number or values for each case of the code's answer
-abbrev pub choose_told : Choice → Answer (Record × ℕ × ℕ)
-choose_told (Chosen r cost count) = given (r, cost, count)
-choose_told (Refused number) = refused number
+-- the record, its cost and the number of offsets that the code answers
+abbrev pub chosen_values : Choice → Record × ℕ × ℕ
+chosen_values c = (c.record, c.cost, c.tried)
 
 -- a record that is answered is the one of least cost, first in the order between equals, the cost is its own, and so many offsets were
 -- tried in all

@@ -1,5 +1,7 @@
 -- Document 01, "Choice": what a choice is given.
 use Rattle.std.specs.Prelude.{ℕ, ◌-◌, min, List, length}
+use Rattle.pattern.specs.Words.{patterns_of}
+use Rattle.choice.specs.declared.Input.{Input}
 
 -- what a choice is given: the size, the wedgelet list (document 01: the edge list) and its count, the neighbours (the border), the
 -- original samples, the depth table, the reach, and texture samples; no texture is the empty list
@@ -33,3 +35,8 @@ case_of n list count neighbours original table reach texture =
       reach = reach;
       texture = texture;
     }
+
+-- the case that a call is lent: its list in words, and the patterns that these are
+abbrev pub case_in : Input → Case
+case_in I =
+    case_of I.n (patterns_of I.n I.list.words.now) I.list.count I.border.now I.original.now I.table.now I.reach I.texture.now

@@ -1,5 +1,5 @@
 -- A partition's cost is convex in the depth value: where it turns along the table, and its cost by an offset's number.
-use Rattle.std.specs.Prelude.{ℕ, suc, ◌+◌, ◌-◌, ◌*◌, ◌≤◌, ◌<◌, ◌≡◌, Bool, true, List, ◌⊎◌, length, get_or}
+use Rattle.std.specs.Prelude.{ℕ, suc, ◌+◌, ◌-◌, ◌*◌, ◌≤◌, ◌<◌, ◌≡◌, Bool, true, cond, List, ◌⊎◌, leb, length, get_or}
 use Rattle.std.specs.Int.Bits.{bit_and}
 use Rattle.std.specs.Int.Count.{ones}
 use Rattle.arith.specs.Distance.{clamped}
@@ -42,6 +42,14 @@ pub record Findable (table : List ℕ) (i R : ℕ) : Type 0 where
   pub sound : table_ok table ≡ true
   pub inside : i < length table
   pub near : R ≤ 255
+
+-- the number of the offset that leads from one index to another
+abbrev pub number_to : ℕ → ℕ → ℕ
+number_to i j = cond (leb i j) (2 * (j - i)) (2 * (i - j) - 1)
+
+-- what the samples that a word marks cost at the value at index j
+abbrev pub level_cost : List ℕ → ℕ → List ℕ → ℕ → ℕ
+level_cost samples word table j = side_cost (length samples) samples word true (get_or table j 0)
 
 -- the better of the level at the turn and the next one, upward and downward
 pub record UpTried (samples below : List ℕ) (word size : ℕ) (table : List ℕ) (i to number cost : ℕ) : Type 0 where

@@ -1,15 +1,16 @@
 // The answer of a choice.
 ghost use Rattle.std.specs.Prelude.{◌≡◌, ◌<◌, ◌≤◌};
+ghost use Rattle.pattern.specs.Refusal.{told};
 ghost use Rattle.choice.specs.Offset.{offset};
-ghost use Rattle.pattern.specs.Words.{patterns_of};
-ghost use Rattle.choice.specs.Case.{case_of};
+ghost use Rattle.choice.specs.Case.{case_in};
 ghost use Rattle.choice.specs.Search.{record_by};
-ghost use Rattle.choice.specs.Answer.{choose_told, choose_answer, LeastGiven};
+ghost use Rattle.choice.specs.Answer.{chosen_values, choose_answer, LeastGiven};
 
-use crate::Choice;
-use crate::refusal::choose_refusal;
+use crate::refusal::check_choice;
 use crate::search::{Picked, best_pattern};
-use record::Record;
+use crate::{Choice, Input};
+use pattern::Refusal;
+use record::{Kind, Record};
 
 // The offset with the number t: 0, -1, 1, -2, 2 and so on.
 fn offset_of(t: usize) -> i32
@@ -21,68 +22,34 @@ fn offset_of(t: usize) -> i32
 }
 
 // The record of a pattern and two offsets, from their numbers.
-fn record_of(count: usize, p: Picked) -> Record
-    requires { (count ≤ 9999) × (p.trial0 < 512) × (p.trial1 < 512) }
-    ensures { result ≡ record_by count p.number p.trial0 p.trial1 }
+fn record_of(count: usize, picked: Picked) -> Record
+    requires { (count ≤ 9999) × (picked.trial0 < 512) × (picked.trial1 < 512) }
+    ensures { result ≡ record_by count picked.number picked.trial0 picked.trial1 }
 {
-    let off0 = offset_of(p.trial0);
-    let off1 = offset_of(p.trial1);
-    let at = p.number;
-    if at < count {
-        return Record {
-            kind: 0,
-            entry: at as u32,
-            off0,
-            off1,
-        };
-    }
+    let (kind, entry) = if picked.number < count {
+        (Kind::Wedgelet, picked.number as u32)
+    } else {
+        (Kind::Contour, 0)
+    };
     Record {
-        kind: 1,
-        entry: 0,
-        off0,
-        off1,
+        kind: kind as u32,
+        entry,
+        off0: offset_of(picked.trial0),
+        off1: offset_of(picked.trial1),
     }
-}
-
-// A number as a place in a slice.
-fn wide(x: u32) -> usize
-    ensures { result ≡ x }
-{
-    x as usize
 }
 
 // The record of least cost, first in the order between equals, its cost, and how many offsets were tried; or refusal 1, 2, 3, 5, 4 or 10.
-// An empty texture is none.
-pub fn choose(
-    n: usize,
-    list: &[u64],
-    count: usize,
-    border: &[u8],
-    original: &[u8],
-    table: &[u8],
-    reach: u32,
-    texture: &[u8],
-) -> Choice
-    ensures answered { let l = patterns_of n list.now in
-        let C = case_of n l count border.now original.now table.now reach texture.now in
-        choose_told result ≡ choose_answer C }
-    ensures least { let l = patterns_of n list.now in
-        let C = case_of n l count border.now original.now table.now reach texture.now in
-        LeastGiven C (choose_told result) }
+#[tactic(auto, unfolding(crate::specs::Answer::choose_answer))]
+pub fn choose(input: Input) -> Result<Choice, Refusal>
+    ensures answered { told chosen_values result ≡ choose_answer (case_in input.entry) }
+    ensures least { LeastGiven (case_in input.entry) (told chosen_values result) }
 {
-    let refusal = choose_refusal(n, list, count, border, original, table, reach, texture);
-    if refusal != 0 {
-        return Choice::Refused(refusal);
-    }
-    let picked = best_pattern(
-        n,
-        list,
-        count,
-        border,
-        original,
-        table,
-        wide(reach),
-        texture,
-    );
-    Choice::Chosen(record_of(count, picked), picked.cost, picked.tried)
+    check_choice(input)?;
+    let picked = best_pattern(input);
+    Ok(Choice {
+        record: record_of(input.list.count, picked),
+        cost: picked.cost,
+        tried: picked.tried,
+    })
 }

@@ -1,6 +1,6 @@
-// A block's samples in layers, each layer a pattern of four words: the samples below each depth value. The functions that answer an array
-// are not inlined: it is then made where the caller keeps it, and no second one takes stack.
-ghost use Rattle.std.specs.Prelude.{◌≡◌, ◌<◌, ◌≤◌, length};
+// A block's samples in layers, each layer a pattern of four words: the samples below each depth value. The layers are put into the caller's
+// array, and the function that does so keeps a frame of its own, so that no second array takes stack during the search.
+ghost use Rattle.std.specs.Prelude.{◌≤◌, length};
 ghost use Rattle.pattern.specs.Size.{greatest_samples};
 ghost use Rattle.choice.specs.Layers.{EqualWords, BelowLayers};
 
@@ -11,13 +11,6 @@ const EQUAL_WORDS: usize = WORDS * 256;
 
 pub(crate) const LAYER_WORDS: usize = WORDS * 257;
 
-// A byte as a place in a slice.
-pub(crate) fn wide(x: u8) -> usize
-    ensures { (result ≡ x) × (result < 256) }
-{
-    x as usize
-}
-
 // The samples of each value: word i of the value v at 4v + i.
 #[inline(never)]
 fn equal_layers(samples: &[u8]) -> [u64; EQUAL_WORDS]
@@ -25,24 +18,22 @@ fn equal_layers(samples: &[u8]) -> [u64; EQUAL_WORDS]
     ensures { EqualWords (length samples.now) samples.now result }
 {
     let mut layers = [0u64; EQUAL_WORDS];
-    for k in 0..samples.len() {
-        let v = wide(samples[k]);
-        let at = WORDS * v + k / 64;
-        layers[at] = layers[at] + (1 << (k % 64));
+    for (k, &sample) in samples.iter().enumerate() {
+        let at = WORDS * usize::from(sample) + k / 64;
+        layers[at] += 1 << (k % 64);
     }
     layers
 }
 
 // The samples below each value from 0 to 256.
 #[inline(never)]
-pub(crate) fn below_layers(samples: &[u8]) -> [u64; LAYER_WORDS]
+pub(crate) fn put_below(samples: &[u8], layers: &mut [u64; LAYER_WORDS])
     requires { length samples.now ≤ greatest_samples }
-    ensures { BelowLayers 257 samples.now result }
+    ensures { BelowLayers 257 samples.now layers.new }
 {
     let equal = equal_layers(samples);
-    let mut layers = [0u64; LAYER_WORDS];
-    for at in 0..EQUAL_WORDS {
-        layers[at + WORDS] = layers[at] + equal[at];
+    *layers = [0; LAYER_WORDS];
+    for (at, &word) in equal.iter().enumerate() {
+        layers[at + WORDS] = layers[at] + word;
     }
-    layers
 }

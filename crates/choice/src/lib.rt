@@ -11,12 +11,27 @@ mod search;
 mod sums;
 
 pub use answer::choose;
+use pattern::PatternList;
 use record::Record;
-pub use refusal::choose_refusal;
+pub use refusal::check_choice;
 
-// What `choose` answers: the chosen record, its cost, and how many offsets were tried; or the number of the refusal.
+// What a record is chosen from: the size, the wedgelet list, the neighbours, the original samples, the depth table, the reach, and the
+// texture; an empty texture is none.
 #[derive(Clone, Copy)]
-pub enum Choice {
-    Chosen(Record, u32, u32),
-    Refused(u8),
+pub struct Input<'a> {
+    pub n: usize,
+    pub list: PatternList<'a>,
+    pub border: &'a [u8],
+    pub original: &'a [u8],
+    pub table: &'a [u8],
+    pub reach: u32,
+    pub texture: &'a [u8],
+}
+
+// The chosen record, its cost, and how many offsets were tried.
+#[derive(Clone, Copy)]
+pub struct Choice {
+    pub record: Record,
+    pub cost: u32,
+    pub tried: u32,
 }

@@ -1,16 +1,13 @@
 // The best offset of a part of a block. A part's cost falls up to its median and rises from there, so the best level is next to it.
-ghost use Rattle.std.specs.Prelude.{◌≡◌, true, ◌+◌, ◌-◌, ◌*◌, ◌<◌, ◌≤◌, length};
-ghost use Rattle.depth_table.specs.Table.{table_ok, most_values};
+ghost use Rattle.std.specs.Prelude.{◌≡◌, true, ◌+◌, ◌-◌, ◌*◌, ◌<◌, ◌≤◌, length, get_or};
+ghost use Rattle.depth_table.specs.Table.{most_values};
 ghost use Rattle.pattern.specs.Words.{pattern_number};
-ghost use Rattle.choice.specs.Layers.{Fits, Parted};
-ghost use Rattle.choice.specs.Trial.{Better, TrialOf};
-ghost use Rattle.choice.specs.Turn.{twice, Turn, UpTried, DownTried, Findable, offset_cost};
+ghost use Rattle.arith.specs.Distance.{dist};
+ghost use Rattle.choice.specs.Trial.{tried_by, Better, TrialOf};
+ghost use Rattle.choice.specs.Turn.{Turn, Findable, offset_cost, number_to, level_cost};
 
-use crate::layers::{LAYER_WORDS, wide};
-use crate::parts::{Part, cost_at, count_below};
-use crate::sums::SUMS;
+use crate::parts::Part;
 use depth_table::DepthIndex;
-use pattern::lesser;
 
 // The number of an offset, and what a part costs there.
 #[derive(Clone, Copy)]
@@ -19,177 +16,111 @@ pub(crate) struct Trial {
     pub cost: u32,
 }
 
-// The better of a trial and a later one: the later only where it costs less.
-fn better(best: Trial, number: usize, cost: u32) -> Trial
-    ensures { Better best.number best.cost number cost result.number result.cost }
-{
-    if cost < best.cost {
-        return Trial { number, cost };
+impl Trial {
+    // The better of a trial and a later one: the later only where it costs less.
+    fn better(self, later: Trial) -> Trial
+        ensures { Better self.number self.cost later.number later.cost result.number result.cost }
+    {
+        if later.cost < self.cost { later } else { self }
     }
-    best
-}
 
-// Of the indices `from` to `to` - 1 the last one at whose value, plus 0 or 1, twice the samples of the part below it stay under the limit,
-// or `from` where there is none.
-fn turn(
-    below: &[u64; LAYER_WORDS],
-    part: Part,
-    limit: u32,
-    table: &[u8],
-    plus: usize,
-    from: usize,
-    to: usize,
-) -> usize
-    requires { Fits part.wide (pattern_number part.marks)
-        × (plus ≤ 1)
-        × (from < to)
-        × (to < length table.now)
-        × (length table.now ≤ most_values) }
-    ensures { Turn below.now (pattern_number part.marks) limit table.now plus from to result }
-{
-    let mut low = from;
-    let mut high = to;
-    while low + 1 < high {
-        let middle = (low + high) / 2;
-        let v = wide(table[middle]);
-        if 2 * count_below(below, part, v + plus) < limit {
-            low = middle;
-        } else {
-            high = middle;
+    // How many offsets are tried for a partition, by the first one of least cost: up to it where it costs 0, else all in reach.
+    pub(crate) fn tried(self, reach: usize) -> u32
+        requires { (self.number ≤ 510) × (reach ≤ 255) }
+        ensures { (result ≡ tried_by self.number self.cost (2 * reach)) × (result ≤ 511) }
+    {
+        if self.cost == 0 {
+            return self.number as u32 + 1;
         }
+        2 * reach as u32 + 1
     }
-    low
 }
 
-// The number of the offset k steps down.
-fn number_down(k: usize) -> usize
-    requires { k ≤ 255 }
-    ensures { result ≡ 2 * k - 1 }
+// The number of the offset that leads from an index to another one.
+fn number_to(from: usize, to: usize) -> usize
+    requires { (from ≤ most_values) × (to ≤ most_values) }
+    ensures { result ≡ number_to from to }
 {
-    if k == 0 { 0 } else { 2 * k - 1 }
+    if from <= to {
+        2 * (to - from)
+    } else {
+        2 * (from - to) - 1
+    }
 }
 
-// The best offset upward, where the cost falls from the index on: the turn is found by halving, and the best level is next to it. Where
-// the two levels there are next to each other as values too, the farther costs less.
-fn best_up(
-    samples: &[u8],
-    below: &[u64; LAYER_WORDS],
-    sums: &[u16; SUMS],
-    part: Part,
-    table: &[u8],
-    at: usize,
-    last: usize,
-) -> Trial
-    requires { Parted samples.now below.now sums.now (pattern_number part.marks) part.size part.sum
-        × Fits part.wide (pattern_number part.marks)
-        × (table_ok table.now ≡ true)
-        × (at < last)
-        × (last < length table.now)
-        × (twice below.now (pattern_number part.marks) table.now 1 at < part.size) }
-    ensures { UpTried samples.now below.now (pattern_number part.marks) part.size
-        table.now at last result.number result.cost × (result.cost ≤ 65280) }
-{
-    let low = turn(below, part, part.size, table, 1, at, last);
-    let next = low + 1;
-    let near_value = wide(table[low]);
-    let far_value = wide(table[next]);
-    let far = cost_at(samples, below, sums, part, far_value);
-    let far_number = 2 * (next - at);
-    if far_value == near_value + 1 {
-        return Trial {
-            number: far_number,
-            cost: far,
+impl Part<'_> {
+    // Of the indices `from` to `to` - 1 the last one at whose value, plus 0 or 1, twice the samples of the part below it stay under the
+    // limit, or `from` where there is none. It halves by hand, since with the library's `partition_point` the whole search took a quarter
+    // to two fifths longer.
+    fn turn(&self, limit: u32, table: &[u8], plus: usize, from: usize, to: usize) -> usize
+        requires { (plus ≤ 1)
+            × (from < to)
+            × (to < length table.now)
+            × (length table.now ≤ most_values) }
+        ensures { Turn self.now.layers.below.now (pattern_number self.now.marks) limit table.now plus from to result }
+    {
+        let mut low = from;
+        let mut high = to;
+        while low + 1 < high {
+            let middle = (low + high) / 2;
+            if 2 * self.count_below(usize::from(table[middle]) + plus) < limit {
+                low = middle;
+            } else {
+                high = middle;
+            }
+        }
+        low
+    }
+
+    // The better of the levels at two indices, the second of them farther from the index `at`. Where they are next to each other as values
+    // too, the farther costs less.
+    fn better_level(&self, table: &[u8], at: usize, near: usize, far: usize) -> Trial
+        requires { (at < length table.now)
+            × (near < length table.now)
+            × (far < length table.now)
+            × (length table.now ≤ most_values)
+            × (let F = level_cost self.now.layers.samples.now (pattern_number self.now.marks) table.now in
+            dist (get_or table.now far 0) (get_or table.now near 0) ≡ 1 → F far < F near) }
+        ensures { let F = level_cost self.now.layers.samples.now (pattern_number self.now.marks) table.now in
+            Better (number_to at near) (F near) (number_to at far) (F far) result.number result.cost × (result.cost ≤ 65280) }
+    {
+        let farther = Trial {
+            number: number_to(at, far),
+            cost: self.cost_at(table[far]),
         };
-    }
-    let near = cost_at(samples, below, sums, part, near_value);
-    let near_number = 2 * (low - at);
-    better(
-        Trial {
-            number: near_number,
-            cost: near,
-        },
-        far_number,
-        far,
-    )
-}
-
-// The best offset downward, where the cost falls toward lower values.
-fn best_down(
-    samples: &[u8],
-    below: &[u64; LAYER_WORDS],
-    sums: &[u16; SUMS],
-    part: Part,
-    table: &[u8],
-    at: usize,
-    end: usize,
-) -> Trial
-    requires { Parted samples.now below.now sums.now (pattern_number part.marks) part.size part.sum
-        × Fits part.wide (pattern_number part.marks)
-        × (table_ok table.now ≡ true)
-        × (end < at)
-        × (at < length table.now)
-        × (part.size < twice below.now (pattern_number part.marks) table.now 0 at) }
-    ensures { DownTried samples.now below.now (pattern_number part.marks) part.size
-        table.now at end result.number result.cost × (result.cost ≤ 65280) }
-{
-    let low = turn(below, part, part.size + 1, table, 0, end, at);
-    let next = low + 1;
-    let near_value = wide(table[next]);
-    let far_value = wide(table[low]);
-    let far = cost_at(samples, below, sums, part, far_value);
-    let far_number = number_down(at - low);
-    if near_value == far_value + 1 {
-        return Trial {
-            number: far_number,
-            cost: far,
+        if table[far].abs_diff(table[near]) == 1 {
+            return farther;
+        }
+        let nearer = Trial {
+            number: number_to(at, near),
+            cost: self.cost_at(table[near]),
         };
+        nearer.better(farther)
     }
-    let near = cost_at(samples, below, sums, part, near_value);
-    let near_number = number_down(at - next);
-    better(
-        Trial {
-            number: near_number,
-            cost: near,
-        },
-        far_number,
-        far,
-    )
-}
 
-// The first offset of least cost of a part, where its depth has the given index, and its cost.
-pub(crate) fn best_of_part(
-    samples: &[u8],
-    below: &[u64; LAYER_WORDS],
-    sums: &[u16; SUMS],
-    part: Part,
-    table: &[u8],
-    index: DepthIndex,
-    reach: usize,
-) -> Trial
-    requires { Parted samples.now below.now sums.now (pattern_number part.marks) part.size part.sum
-        × Fits part.wide (pattern_number part.marks)
-        × Findable table.now index.0 reach }
-    ensures { TrialOf
-        (offset_cost samples.now (pattern_number part.marks) true table.now index.0) (2 * reach)
-        result.number result.cost × (result.cost ≤ 65280) }
-{
-    let at = index.0;
-    let size = part.size;
-    let last = at + lesser(reach, table.len() - 1 - at);
-    let end = at - lesser(reach, at);
-    let v = wide(table[at]);
-    if at < last {
-        if 2 * count_below(below, part, v + 1) < size {
-            return best_up(samples, below, sums, part, table, at, last);
+    // The first offset of least cost, where the part's depth has the given index, and its cost. The turn of the cost is found by halving,
+    // upward or downward from the index, and the best level is next to it.
+    pub(crate) fn best_offset(&self, table: &[u8], index: DepthIndex, reach: usize) -> Trial
+        requires { Findable table.now index.0 reach }
+        ensures { TrialOf
+            (offset_cost self.now.layers.samples.now (pattern_number self.now.marks) true table.now index.0) (2 * reach)
+            result.number result.cost × (result.cost ≤ 65280) }
+    {
+        let at = index.0;
+        let last = (at + reach).min(table.len() - 1);
+        let end = at.saturating_sub(reach);
+        let v = table[at];
+        if at < last && 2 * self.count_below(usize::from(v) + 1) < self.size {
+            let low = self.turn(self.size, table, 1, at, last);
+            return self.better_level(table, at, low, low + 1);
         }
-    }
-    if end < at {
-        if size < 2 * count_below(below, part, v) {
-            return best_down(samples, below, sums, part, table, at, end);
+        if end < at && self.size < 2 * self.count_below(usize::from(v)) {
+            let low = self.turn(self.size + 1, table, 0, end, at);
+            return self.better_level(table, at, low + 1, low);
         }
-    }
-    Trial {
-        number: 0,
-        cost: cost_at(samples, below, sums, part, v),
+        Trial {
+            number: 0,
+            cost: self.cost_at(v),
+        }
     }
 }

@@ -1,102 +1,155 @@
-// What the samples of a part of a block cost, from the block's layers and sums.
-ghost use Rattle.std.specs.Prelude.{◌≡◌, true, ◌<◌, ◌≤◌, length};
+// A block's layers and sums, and what the samples of a part of it cost.
+ghost use Rattle.std.specs.Prelude.{◌≡◌, ℕ, ◌^◌, true, ◌<◌, ◌≤◌, length, get_or};
 ghost use Rattle.std.specs.Int.Bits.{bit_and, bit_xor};
 ghost use Rattle.std.specs.Int.Count.{ones};
 ghost use Rattle.pattern.specs.Size.{greatest_samples};
 ghost use Rattle.pattern.specs.Words.{pattern_number};
 ghost use Rattle.choice.specs.Cost.{side_cost};
-ghost use Rattle.choice.specs.Layers.{layer_at, Fits, Parted};
+ghost use Rattle.choice.specs.Sums.{marked_sum};
+ghost use Rattle.choice.specs.Layers.{layer_at, Layered, Parted};
 
 use crate::layers::LAYER_WORDS;
-use crate::sums::{SUMS, sum_of};
+use crate::sums::{SUMS, word_sum};
 use pattern::Pattern;
 
-// How many samples a part has. One that is not wide has one word.
-pub(crate) fn size_of(p: Pattern, wide: bool) -> u32
-    requires { Fits wide (pattern_number p) }
-    ensures { (result ≡ ones (pattern_number p)) × (result ≤ greatest_samples) }
-{
-    if wide {
-        return pattern::marks(p);
-    }
-    u64::count_ones(p.w0)
-}
-
-// The layer of the samples below v.
-fn below_at(below: &[u64; LAYER_WORDS], v: usize) -> Pattern
-    requires { v < 257 }
-    ensures { pattern_number result ≡ layer_at below.now v }
-{
-    let at = 4 * v;
-    Pattern {
-        w0: below[at],
-        w1: below[at + 1],
-        w2: below[at + 2],
-        w3: below[at + 3],
-    }
-}
-
-// The samples of a pattern that are below v.
-fn lower(below: &[u64; LAYER_WORDS], p: Pattern, v: usize) -> Pattern
-    requires { v < 257 }
-    ensures { pattern_number result ≡ bit_and (pattern_number p) (layer_at below.now v) }
-{
-    let layer = below_at(below, v);
-    Pattern {
-        w0: p.w0 & layer.w0,
-        w1: p.w1 & layer.w1,
-        w2: p.w2 & layer.w2,
-        w3: p.w3 & layer.w3,
-    }
-}
-
-// A part of a block: its samples as a pattern, how many there are, their sum, and whether the pattern may take more than one word.
+// A block's samples, their layers and their sums.
 #[derive(Clone, Copy)]
-pub(crate) struct Part {
+pub(crate) struct Layers<'a> {
+    pub samples: &'a [u8],
+    pub below: &'a [u64; LAYER_WORDS],
+    pub sums: &'a [u16; SUMS],
+    ghost bytes: { (k : ℕ) → get_or samples.now k 0 < 256 },
+    ghost layered: { Layered samples.now below.now sums.now },
+}
+
+impl<'a> Layers<'a> {
+    // A block's samples with their layers and sums.
+    pub(crate) fn new(
+        samples: &'a [u8],
+        below: &'a [u64; LAYER_WORDS],
+        sums: &'a [u16; SUMS],
+    ) -> Layers<'a>
+        requires { Layered samples.now below.now sums.now }
+        ensures { result.samples.now ≡ samples.now }
+    {
+        Layers {
+            samples,
+            below,
+            sums,
+        }
+    }
+
+    // How many samples of the block a pattern marks.
+    pub(crate) fn count(&self, p: Pattern) -> u32
+        requires { pattern_number p < 2 ^ length self.now.samples.now }
+        ensures { (result ≡ ones (pattern_number p)) × (result ≤ greatest_samples) }
+    {
+        if 64 < self.samples.len() {
+            p.marks()
+        } else {
+            p.w0.count_ones()
+        }
+    }
+
+    // The sum of the samples of the block that a pattern marks.
+    fn sum(&self, p: Pattern) -> u32
+        requires { pattern_number p < 2 ^ length self.now.samples.now }
+        ensures { let s = self.now.samples.now in result ≡ marked_sum (λ k. get_or s k 0) (pattern_number p) (length s) }
+    {
+        let first = word_sum(self.sums, 0, p.w0);
+        if 64 < self.samples.len() {
+            let second = word_sum(self.sums, 1, p.w1);
+            let third = word_sum(self.sums, 2, p.w2);
+            return word_sum(self.sums, 3, p.w3) + third + second + first;
+        }
+        first
+    }
+
+    // The layer of the samples below v.
+    fn below_at(&self, v: usize) -> Pattern
+        requires { v < 257 }
+        ensures { pattern_number result ≡ layer_at self.now.below.now v }
+    {
+        let at = 4 * v;
+        Pattern {
+            w0: self.below[at],
+            w1: self.below[at + 1],
+            w2: self.below[at + 2],
+            w3: self.below[at + 3],
+        }
+    }
+
+    // The samples of a pattern that are below v.
+    fn lower(&self, p: Pattern, v: usize) -> Pattern
+        requires { v < 257 }
+        ensures { pattern_number result ≡ bit_and (pattern_number p) (layer_at self.now.below.now v) }
+    {
+        let layer = self.below_at(v);
+        Pattern {
+            w0: p.w0 & layer.w0,
+            w1: p.w1 & layer.w1,
+            w2: p.w2 & layer.w2,
+            w3: p.w3 & layer.w3,
+        }
+    }
+
+    // The samples of the block that a pattern does not mark.
+    pub(crate) fn others(&self, p: Pattern) -> Pattern
+        ensures { pattern_number result ≡ bit_xor (layer_at self.now.below.now 256) (pattern_number p) }
+    {
+        let all = self.below_at(256);
+        Pattern {
+            w0: all.w0 ^ p.w0,
+            w1: all.w1 ^ p.w1,
+            w2: all.w2 ^ p.w2,
+            w3: all.w3 ^ p.w3,
+        }
+    }
+
+    // The part of the samples that a pattern marks, with so many marks.
+    pub(crate) fn part(&self, marks: Pattern, size: u32) -> Part<'a>
+        requires { (pattern_number marks < 2 ^ length self.now.samples.now) × (size ≡ ones (pattern_number marks)) }
+        ensures { (result.layers.samples.now ≡ self.now.samples.now) × (result.marks ≡ marks) }
+    {
+        Part {
+            layers: *self,
+            marks,
+            size,
+            sum: self.sum(marks),
+        }
+    }
+}
+
+// A part of a block: its samples as a pattern, how many there are, and their sum.
+#[derive(Clone, Copy)]
+pub(crate) struct Part<'a> {
+    pub layers: Layers<'a>,
     pub marks: Pattern,
     pub size: u32,
     pub sum: u32,
-    pub wide: bool,
+    ghost parted: { let L = layers in
+        Parted L.samples.now L.below.now L.sums.now (pattern_number marks) size sum },
 }
 
-// How many samples of a part are below v.
-pub(crate) fn count_below(below: &[u64; LAYER_WORDS], part: Part, v: usize) -> u32
-    requires { Fits part.wide (pattern_number part.marks) × (v < 257) }
-    ensures { (result ≡ ones (bit_and (pattern_number part.marks) (layer_at below.now v))) × (result ≤ greatest_samples) }
-{
-    size_of(lower(below, part.marks, v), part.wide)
-}
+impl Part<'_> {
+    // How many of its samples are below v.
+    pub(crate) fn count_below(&self, v: usize) -> u32
+        requires { v < 257 }
+        ensures { (result ≡ ones (bit_and (pattern_number self.now.marks) (layer_at self.now.layers.below.now v)))
+            × (result ≤ greatest_samples) }
+    {
+        self.layers.count(self.layers.lower(self.marks, v))
+    }
 
-// What a part costs where all of its samples are predicted as v: one below v costs v less the sample, any other the sample less v.
-pub(crate) fn cost_at(
-    samples: &[u8],
-    below: &[u64; LAYER_WORDS],
-    sums: &[u16; SUMS],
-    part: Part,
-    v: usize,
-) -> u32
-    requires { Parted samples.now below.now sums.now (pattern_number part.marks) part.size part.sum
-        × Fits part.wide (pattern_number part.marks)
-        × (v < 256) }
-    ensures { (result ≡ side_cost (length samples.now) samples.now (pattern_number part.marks) true v)
-        × (result ≤ 65280) }
-{
-    let value = v as u32;
-    let marks = lower(below, part.marks, v);
-    let count = size_of(marks, part.wide);
-    let lower_sum = sum_of(samples, sums, marks, part.wide);
-    part.sum + 2 * (value * count) - (2 * lower_sum + value * part.size)
-}
-
-// The samples of the block that a pattern does not mark.
-pub(crate) fn others(below: &[u64; LAYER_WORDS], p: Pattern) -> Pattern
-    ensures { pattern_number result ≡ bit_xor (layer_at below.now 256) (pattern_number p) }
-{
-    let all = below_at(below, 256);
-    Pattern {
-        w0: all.w0 ^ p.w0,
-        w1: all.w1 ^ p.w1,
-        w2: all.w2 ^ p.w2,
-        w3: all.w3 ^ p.w3,
+    // What it costs where all of its samples are predicted as v: one below v costs v less the sample, any other the sample less v.
+    pub(crate) fn cost_at(&self, v: u8) -> u32
+        ensures { let s = self.now.layers.samples.now in
+            (result ≡ side_cost (length s) s (pattern_number self.now.marks) true v) × (result ≤ 65280) }
+    {
+        let value = u32::from(v);
+        let lower = self.layers.lower(self.marks, usize::from(v));
+        let count = self.layers.count(lower);
+        let lower_sum = self.layers.sum(lower);
+        self.sum + 2 * (value * count) - (2 * lower_sum + value * self.size)
     }
 }

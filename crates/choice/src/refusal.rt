@@ -1,88 +1,45 @@
 // The checks of a choice, in document 01's order.
-ghost use Rattle.std.specs.Prelude.{◌≡◌, ◌||◌, ◌*◌, ◌≤◌, ltb};
+ghost use Rattle.std.specs.Prelude.{◌≡◌, ◌≤◌};
+ghost use Rattle.pattern.specs.Refusal.{refusal_in};
 ghost use Rattle.pattern.specs.Size.{greatest_size};
 ghost use Rattle.pattern.specs.Words.{patterns_of};
-ghost use Rattle.choice.specs.Case.{case_of};
-ghost use Rattle.choice.specs.Refusal.{lengths_ok, words_ok, choose_refusal};
+ghost use Rattle.choice.specs.Case.{case_in};
+ghost use Rattle.choice.specs.Refusal.{case_lengths_ok, words_ok, choose_refusal};
 
-use pattern::{check, count_ok, texture_ok};
+use crate::Input;
+use pattern::{PatternList, Refusal, check, size_ok, texture_ok};
 
 // Whether neighbours, original and texture have their lengths, and the count is allowed.
-fn lengths_ok(
-    n: usize,
-    patterns: usize,
-    count: usize,
-    neighbours: usize,
-    samples: usize,
-    texture: usize,
-) -> bool
-    requires { n ≤ greatest_size }
-    ensures { result ≡ lengths_ok n patterns count neighbours samples texture }
+fn lengths_ok(input: Input) -> bool
+    requires { input.n ≤ greatest_size }
+    ensures { result ≡ case_lengths_ok (case_in input.entry) }
 {
-    if neighbours != 4 * n {
-        return false;
-    }
-    if samples != n * n {
-        return false;
-    }
-    if !texture_ok(texture, n * n) {
-        return false;
-    }
-    count_ok(patterns, count)
+    let n = input.n;
+    input.border.len() == 4 * n
+        && input.original.len() == n * n
+        && texture_ok(input.texture.len(), n * n)
+        && input.list.count_ok(n)
 }
 
 // Whether every pattern below the count marks samples of the block only.
-fn words_ok(n: usize, list: &[u64], count: usize) -> bool
-    ensures { result ≡ words_ok n (patterns_of n list.now) count }
+fn words_ok(n: usize, list: PatternList) -> bool
+    ensures { let L = list.entry in result ≡ words_ok n (patterns_of n L.words.now) L.count }
 {
-    for k in 0..count {
-        if !pattern::word_ok(n, pattern::pattern_at(n, list, k)) {
-            return false;
-        }
-    }
-    true
+    (0..list.count).all(|k| list.pattern_at(n, k).fits(n))
 }
 
-// Whether there is a pattern to choose: a wedgelet or a texture.
-fn some_pattern(count: usize, texture: usize) -> bool
-    ensures { result ≡ ltb 0 count || ltb 0 texture }
+// What is refused of a choice: 1, 2, 3, 5, 4 or 10.
+#[tactic(auto, unfolding(crate::specs::Refusal::choose_refusal))]
+pub fn check_choice(input: Input) -> Result<(), Refusal>
+    ensures { refusal_in result ≡ choose_refusal (case_in input.entry) }
 {
-    if 0 < count {
-        return true;
-    }
-    0 < texture
-}
-
-// The number of the first check that fails, 0 for none.
-pub fn choose_refusal(
-    n: usize,
-    list: &[u64],
-    count: usize,
-    border: &[u8],
-    original: &[u8],
-    table: &[u8],
-    reach: u32,
-    texture: &[u8],
-) -> u8
-    ensures { result ≡ choose_refusal
-        (case_of n (patterns_of n list.now) count border.now original.now
-        table.now reach texture.now) }
-{
-    if !pattern::size_ok(n) {
-        return 1;
-    }
-    if !lengths_ok(
-        n,
-        pattern::whole_patterns(n, list.len()),
-        count,
-        border.len(),
-        original.len(),
-        texture.len(),
-    ) {
-        return 2;
-    }
-    let some = check(some_pattern(count, texture.len()), 10, 0);
-    let near = check(reach <= 255, 4, some);
-    let words = check(words_ok(n, list, count), 5, near);
-    check(depth_table::is_table(table), 3, words)
+    check(size_ok(input.n), Refusal::Size)?;
+    check(lengths_ok(input), Refusal::Length)?;
+    check(depth_table::is_table(input.table), Refusal::Table)?;
+    check(words_ok(input.n, input.list), Refusal::Pattern)?;
+    check(input.reach <= 255, Refusal::Offset)?;
+    check(
+        0 < input.list.count || !input.texture.is_empty(),
+        Refusal::NoPattern,
+    )
 }

@@ -2,12 +2,15 @@
 // blocks of 4 or 16 where the next byte is 4 or 6, else of 8. It prints the side and the number of records written.
 #![tactic(auto)]
 
-use sheet::{Composed, MOST_BLOCKS, MOST_SAMPLES, Made, Sheet};
+ghost use Rattle.std.specs.Prelude.{◌≤◌};
+
+use pattern::{PatternList, Refusal};
+use sheet::{ComposeInput, MOST_BLOCKS, MOST_SAMPLES, PlaceInput, Sheet};
 use std::io;
 use std::io::Read;
-use wedgelet::Listed;
+use wedgelet::LIST_WORDS;
 
-// Reads until the slice is full or the input ends.
+// Reads until the slice is full or the input ends. A loop, since std fills a slice only where the input has as many bytes.
 fn read_full(input: &mut impl Read, buf: &mut [u8]) -> io::Result<()> {
     let mut done = 0;
     while done < buf.len() {
@@ -29,97 +32,70 @@ fn asked(rt: &impl Input) -> io::Result<[u8; 2]> {
 
 // The side that a byte asks for.
 fn side(byte: u8) -> u32 {
-    if byte == b'8' { 128 } else { 64 }
+    match byte {
+        b'8' => 128,
+        _ => 64,
+    }
 }
 
 // The block size that a byte asks for.
 fn size(byte: u8) -> u32 {
-    if byte == b'4' {
-        return 4;
+    match byte {
+        b'4' => 4,
+        b'6' => 16,
+        _ => 8,
     }
-    if byte == b'6' { 16 } else { 8 }
-}
-
-// The first k samples, or all of them where there are fewer.
-fn first(s: &[u8], k: usize) -> &[u8] {
-    if k < s.len() {
-        return &s[0..k];
-    }
-    s
-}
-
-// The same of a slice that is written to.
-fn first_mut(s: &mut [u8], k: usize) -> &mut [u8] {
-    if k < s.len() {
-        return &mut s[0..k];
-    }
-    s
 }
 
 // The values 0 to 255.
 fn table() -> [u8; 256] {
-    let mut out = [0u8; 256];
-    for i in 0..256 {
-        out[i] = (i % 256) as u8;
-    }
-    out
+    std::array::from_fn(|value| value as u8)
 }
 
 // Original samples that fall into no pattern.
 fn original() -> [u8; MOST_SAMPLES] {
     let mut out = [0u8; MOST_SAMPLES];
     let mut state: u64 = 1;
-    for i in 0..MOST_SAMPLES {
+    for sample in out.iter_mut() {
         state = (state % 2147483648 * 1103515245 + 12345) % 2147483648;
-        out[i] = (state / 65536 % 256) as u8;
+        *sample = (state / 65536 % 256) as u8;
     }
     out
 }
 
-// Composes the sheet with a list and its count; the number of records written.
-fn compose(sheet: Sheet, list: &[u64], count: usize, area: usize) -> usize {
+// Composes a new sheet of so many samples, in blocks of n; the number of records written.
+fn written(n: u32, side: u32, area: usize) -> Result<usize, Refusal>
+    requires { area ≤ 16384 }
+{
+    let sheet = Sheet::new(n, side, side)?;
+    let mut words = [0u64; LIST_WORDS];
+    let count = wedgelet::wedgelets(n as usize, &mut words)?;
     let mut samples = [0u8; MOST_SAMPLES];
+    let mut records = [[0i32; 4]; MOST_BLOCKS];
     let picture = original();
     let values = table();
-    let mut records = [[0i32; 4]; MOST_BLOCKS];
-    let composed = sheet.compose(
-        first_mut(&mut samples, area),
-        first(&picture, area),
-        list,
+    let list = PatternList {
+        words: &words,
         count,
-        &values,
-        5,
-        b"",
-        &mut records,
-    );
-    match composed {
-        Composed::Finished(_, written) => written,
-        Composed::Refused(_) => 0,
-    }
-}
-
-// The same with the wedgelet list for the sheet's blocks.
-fn with_list(sheet: Sheet, area: usize) -> usize {
-    let mut list = [0u64; wedgelet::LIST_WORDS];
-    let listed = wedgelet::wedgelets(sheet.n as usize, &mut list);
-    match listed {
-        Listed::Count(count) => compose(sheet, &list, count, area),
-        Listed::Refused(_) => 0,
-    }
-}
-
-// The number of records written to a new sheet of blocks of n.
-fn written(n: u32, side: u32, area: usize) -> usize {
-    match Sheet::new(n, side, side) {
-        Made::New(sheet) => with_list(sheet, area),
-        Made::Refused(_) => 0,
-    }
+    };
+    let place = PlaceInput {
+        list,
+        table: &values,
+        texture: b"",
+    };
+    let input = ComposeInput {
+        place,
+        original: &picture[..area],
+        reach: 5,
+    };
+    let composed = sheet.compose(&mut samples[..area], input, &mut records)?;
+    Ok(composed.written)
 }
 
 fn main(rt: HostRuntime) -> io::Result<()> {
-    let bytes = asked(&rt)?;
-    let side = side(bytes[0]);
+    let [first, second] = asked(&rt)?;
+    let side = side(first);
     let area = if side == 128 { MOST_SAMPLES } else { 4096 };
-    let count = written(size(bytes[1]), side, area);
+    let count = written(size(second), side, area).unwrap_or(0);
     println!(rt; "{side} {count}")
 }

@@ -83,14 +83,14 @@ module _ (n : ℕ) (size : size_ok n ≡ true) where
       go false e = refl
 
 -- what `wedgelets` answered for so many words is the number of patterns
-pub built-count : (n count : ℕ) → given count ≡ list_answer n (replicate most_words 0) → count ≡ length (wedgelet_list n)
+pub built_count : (n count : ℕ) → given count ≡ list_answer n (replicate most_words 0) → count ≡ length (wedgelet_list n)
 unfolding list_answer
-built-count n count e = sym (given-means (list_refusal n (length {A = ℕ} (replicate most_words 0))) (length (wedgelet_list n)) count (sym e)).1
+built_count n count e = sym (given-means (list_refusal n (length {A = ℕ} (replicate most_words 0))) (length (wedgelet_list n)) count (sym e)).1
 
 -- it refuses no allowed size
-pub never-refused : (n number : ℕ) → size_ok n ≡ true → refused number ≡ list_answer n (replicate most_words 0) → ⊥
+pub never_refused : (n number : ℕ) → size_ok n ≡ true → refused number ≡ list_answer n (replicate most_words 0) → ⊥
 unfolding list_answer
-never-refused n number size e =
+never_refused n number size e =
     (refused-means (list_refusal n (length {A = ℕ} (replicate most_words 0))) number (length (wedgelet_list n)) (sym e)).1 (none-refused n size)
 
 -- ---- the answer as C gets it
@@ -160,8 +160,8 @@ module _ (n : ℕ) (s o t : List ℕ) (R : ℕ) (x : List ℕ) where
   checks-by list count a b c = rw (a, b, c)
 
   -- a list of one pattern without marks gives the same refusal
-  pub refusal-before : choose_refusal (case_of n (blank_list n) 1 s o t R x) ≡ choose_refusal (built_case n s o t R x)
-  refusal-before = go (size_ok n) refl
+  pub refusal_before : choose_refusal (case_of n (blank_list n) 1 s o t R x) ≡ choose_refusal (built_case n s o t R x)
+  refusal_before = go (size_ok n) refl
     where
       go : (b : Bool) → size_ok n ≡ b → choose_refusal (case_of n (blank_list n) 1 s o t R x) ≡ choose_refusal (built_case n s o t R x)
       go true e =
@@ -170,15 +170,16 @@ module _ (n : ℕ) (s o t : List ℕ) (R : ℕ) (x : List ℕ) where
       go false e = sym (refused-size (case_of n (blank_list n) 1 s o t R x) e) ∙ refused-size (built_case n s o t R x) e
 
   -- the case with the words and the count that `wedgelets` left
-  pub built-same :
+  pub built_same :
       {words : List ℕ} {count : ℕ} → words ≡ list_after n (replicate most_words 0) → count ≡ length (wedgelet_list n)
       → case_of n (patterns_of n words) count s o t R x ≡ built_case n s o t R x
-  built-same e k = λ i. case_of n (patterns_of n (e i)) (k i) s o t R x
+  built_same e k = λ i. case_of n (patterns_of n (e i)) (k i) s o t R x
 
-  -- what is not refused has an allowed size
-  pub accepted-size : {r : ℕ} → r ≡ choose_refusal (built_case n s o t R x) → r ≡ 0 → size_ok n ≡ true
-  accepted-size e z = (accepted (built_case n s o t R x) (sym e ∙ z)).size
+  -- where the choice with that pattern is not refused, the list can be built
+  pub then_built :
+      (number : ℕ) → 0 ≡ choose_refusal (case_of n (blank_list n) 1 s o t R x) → refused number ≡ list_answer n (replicate most_words 0) → ⊥
+  then_built number e = never_refused n number (accepted (case_of n (blank_list n) 1 s o t R x) (sym e)).size
 
   -- what C gets is the record of least cost
-  pub least-built : {r : Choice} → r ≡ choice_struct (choose_answer (built_case n s o t R x)) → LeastChoice (built_case n s o t R x) r
-  least-built e = subst (LeastChoice (built_case n s o t R x)) (sym e) (least-told (built_case n s o t R x))
+  pub least_built : {r : Choice} → r ≡ choice_struct (choose_answer (built_case n s o t R x)) → LeastChoice (built_case n s o t R x) r
+  least_built e = subst (LeastChoice (built_case n s o t R x)) (sym e) (least-told (built_case n s o t R x))

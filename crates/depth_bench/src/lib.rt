@@ -1,22 +1,22 @@
-// The calls that `depth_bench_c` exports for C: include/depth_bench.h has their declarations.
+// The calls that `depth_bench_c` exports for C: include/depth_bench.h has their declarations. C has neither `Result` nor references in a
+// struct, so that parameters stand one by one and an answer is a struct with the number of its refusal.
 #![tactic(auto)]
 
-ghost use Rattle.std.specs.Prelude.{◌≡◌, true, ◌*◌, eqb, ltb, length, get_or};
-ghost use Rattle.arith.specs.Checks.{unless, refused, given, answer};
+ghost use Rattle.std.specs.Prelude.{◌≡◌, true, ◌*◌, ltb, length, get_or};
+ghost use Rattle.arith.specs.Checks.{unless, answer};
+ghost use Rattle.pattern.specs.Refusal.{told};
 ghost use Rattle.pattern.specs.Size.{size_ok};
-ghost use Rattle.pattern.specs.Words.{pattern_number};
-ghost use Rattle.pattern.specs.Answer.{texture_ok, textured};
-ghost use Rattle.pattern.specs.Contour.{contour_of};
+ghost use Rattle.pattern.specs.Words.{pattern_number, patterns_of};
 ghost use Rattle.wedgelet.specs.Wedgelet.{wedgelet_list};
 ghost use Rattle.prediction.specs.Answer.{predict_answer, predict_block};
-ghost use Rattle.choice.specs.Refusal.{choose_refusal};
-ghost use Rattle.choice.specs.Answer.{choose_answer, choose_told};
+ghost use Rattle.choice.specs.Answer.{choose_answer, chosen_values};
+ghost use Rattle.choice.specs.Case.{case_of, case_in};
 ghost use Rattle.depth_bench.specs.Built.{used_words, built_list, built_case, pattern_answer};
-ghost use Rattle.depth_bench.specs.Structs.{prediction_struct, choice_struct, refused_choice, LeastChoice, pattern_struct};
+ghost use Rattle.depth_bench.specs.Structs.{prediction_struct, choice_struct, LeastChoice, pattern_struct};
 
-use pattern::{Contoured, WORDS};
-use prediction::Predicted;
-use wedgelet::{LIST_WORDS, Listed};
+use pattern::{PatternList, Refusal, WORDS};
+use record::Kind;
+use wedgelet::LIST_WORDS;
 
 // The number of marks, or the number of the refusal beside 0.
 #[repr(C)]
@@ -48,11 +48,65 @@ pub struct Pattern {
     pub word: [u64; WORDS],
 }
 
-// A byte as a longer number.
-fn wide(number: u8) -> u32
-    ensures { result ≡ number }
-{
-    number as u32
+// What `prediction::predict` answers, as C gets it.
+impl From<Result<u32, Refusal>> for Prediction {
+    ghost from_gives = { λ answer p. p ≡ prediction_struct (told (λ marks. marks) answer) };
+
+    fn from(answer: Result<u32, Refusal>) -> Prediction {
+        match answer {
+            Ok(marks) => Prediction { refusal: 0, marks },
+            Err(refusal) => {
+                let refusal = u32::from(u8::from(refusal));
+                Prediction { refusal, marks: 0 }
+            }
+        }
+    }
+}
+
+// What `choice::choose` answers, as C gets it.
+impl From<Result<choice::Choice, Refusal>> for Choice {
+    ghost from_gives = { λ answer c. c ≡ choice_struct (told chosen_values answer) };
+
+    fn from(answer: Result<choice::Choice, Refusal>) -> Choice {
+        match answer {
+            Ok(chosen) => Choice {
+                refusal: 0,
+                kind: chosen.record.kind,
+                entry: chosen.record.entry,
+                off0: chosen.record.off0,
+                off1: chosen.record.off1,
+                cost: chosen.cost,
+                tried: chosen.tried,
+            },
+            Err(refusal) => Choice {
+                refusal: u32::from(u8::from(refusal)),
+                kind: 0,
+                entry: 0,
+                off0: 0,
+                off1: 0,
+                cost: 0,
+                tried: 0,
+            },
+        }
+    }
+}
+
+// A pattern or a refusal, as C gets it.
+impl From<Result<pattern::Pattern, Refusal>> for Pattern {
+    ghost from_gives = { λ answer p. p ≡ pattern_struct (told pattern_number answer) };
+
+    fn from(answer: Result<pattern::Pattern, Refusal>) -> Pattern {
+        match answer {
+            Ok(p) => Pattern {
+                refusal: 0,
+                word: [p.w0, p.w1, p.w2, p.w3],
+            },
+            Err(refusal) => Pattern {
+                refusal: u32::from(u8::from(refusal)),
+                word: [0u64; WORDS],
+            },
+        }
+    }
 }
 
 // Writes the predicted block to the lent one, as `prediction::predict` does. Below n = 16 the pattern is word 0, and words 1 to 3 are not
@@ -73,70 +127,67 @@ pub fn depth_bench_predict(
         (result ≡ prediction_struct (predict_answer n w border.now table.now off0 off1 (length block.old)))
         × (block.new ≡ predict_block n w border.now table.now off0 off1 block.old) }
 {
-    let p = pattern::Pattern {
-        w0: word0,
-        w1: word1,
-        w2: word2,
-        w3: word3,
+    let input = prediction::Input {
+        n,
+        pattern: pattern::Pattern {
+            w0: word0,
+            w1: word1,
+            w2: word2,
+            w3: word3,
+        },
+        border,
+        table,
+        off0,
+        off1,
     };
-    let answer = prediction::predict(n, p, border, table, off0, off1, block);
-    match answer {
-        Predicted::Marks(marks) => Prediction { refusal: 0, marks },
-        Predicted::Refused(number) => Prediction {
-            refusal: wide(number),
-            marks: 0,
-        },
-    }
+    Prediction::from(prediction::predict(input, block))
 }
 
-// A refusal: its number, and 0 in the other fields.
-fn refused(number: u8) -> Choice
-    ensures { result ≡ refused_choice number }
+// The same choice with another list.
+fn with_list<'a>(input: choice::Input<'a>, list: PatternList<'a>) -> choice::Input<'a>
+    ensures { let I = input.entry in let L = list.entry in case_in result
+        ≡ case_of I.n (patterns_of I.n L.words.now) L.count I.border.now I.original.now I.table.now I.reach I.texture.now }
 {
-    Choice {
-        refusal: number as u32,
-        kind: 0,
-        entry: 0,
-        off0: 0,
-        off1: 0,
-        cost: 0,
-        tried: 0,
-    }
+    choice::Input { list, ..input }
 }
 
-// What `choice::choose` answered, as C gets it.
-fn told(answer: choice::Choice) -> Choice
-    ensures { result ≡ choice_struct (choose_told answer) }
-{
-    match answer {
-        choice::Choice::Chosen(best, cost, tried) => Choice {
-            refusal: 0,
-            kind: best.kind,
-            entry: best.entry,
-            off0: best.off0,
-            off1: best.off1,
-            cost,
-            tried,
-        },
-        choice::Choice::Refused(number) => refused(number),
-    }
-}
-
-// The refusal of a choice with the wedgelet list for n, before it is built: of a list the checks see only whether there is one and whether
-// its patterns fit the block, so that one pattern without marks stands for it.
-fn built_refusal(
+// The record of least cost with the wedgelet list for n, which is built where the choice is not refused. Of a list the checks see only
+// whether there is one and whether its patterns fit the block, so that one pattern without marks stands for it.
+#[tactic(auto, using(crate::proofs::Built::refusal_before), unfolding(choice::specs::Answer::choose_answer))]
+fn choose_built<'a>(
     n: usize,
-    border: &[u8],
-    original: &[u8],
-    table: &[u8],
+    border: &'a [u8],
+    original: &'a [u8],
+    table: &'a [u8],
     reach: u32,
-    texture: &[u8],
-) -> u8
+    texture: &'a [u8],
+) -> Result<choice::Choice, Refusal>
     ensures { let C = built_case n border.now original.now table.now reach texture.now in
-        result ≡ choose_refusal C }
+        told chosen_values result ≡ choose_answer C }
 {
-    let blank = [0u64; WORDS];
-    choice::choose_refusal(n, &blank, 1, border, original, table, reach, texture)
+    let list = PatternList {
+        words: &[0; WORDS],
+        count: 1,
+    };
+    let input = choice::Input {
+        n,
+        list,
+        border,
+        original,
+        table,
+        reach,
+        texture,
+    };
+    choice::check_choice(input)?;
+    let mut words = [0u64; LIST_WORDS];
+    let count = wedgelet::wedgelets(n, &mut words)?;
+    choice::choose(with_list(
+        input,
+        PatternList {
+            words: &words,
+            count,
+        },
+    ))
 }
 
 // The record of least cost, with the wedgelet list for n, as `choice::choose` finds it. What is refused is refused before the list is
@@ -154,84 +205,40 @@ pub fn depth_bench_choose(
     ensures least { let C = built_case n border.now original.now table.now reach texture.now in
         LeastChoice C result }
 {
-    let refusal = built_refusal(n, border, original, table, reach, texture);
-    if refusal != 0 {
-        return refused(refusal);
-    }
-    let mut list = [0u64; LIST_WORDS];
-    let built = wedgelet::wedgelets(n, &mut list);
-    match built {
-        Listed::Count(count) => told(choice::choose(
-            n, &list, count, border, original, table, reach, texture,
-        )),
-        Listed::Refused(number) => refused(number),
-    }
-}
-
-// A refused pattern: the number, and words without marks.
-fn no_pattern(number: u8) -> Pattern
-    ensures { result ≡ pattern_struct (refused number) }
-{
-    Pattern {
-        refusal: number as u32,
-        word: [0u64; WORDS],
-    }
-}
-
-// A pattern in its words.
-fn pattern_in(p: pattern::Pattern) -> Pattern
-    ensures { result ≡ pattern_struct (given (pattern_number p)) }
-{
-    Pattern {
-        refusal: 0,
-        word: [p.w0, p.w1, p.w2, p.w3],
-    }
-}
-
-// Refusal 1 or 2 of a size and so many texture samples, 0 for none.
-fn texture_refusal(n: usize, texture: usize) -> u8
-    ensures { result ≡ unless (size_ok n) 1 (unless (texture_ok texture (n * n)) 2 0) }
-{
-    if texture == 0 {
-        return pattern::check(pattern::size_ok(n), 1, 0);
-    }
-    pattern::samples_refusal(n, texture)
+    Choice::from(choose_built(n, border, original, table, reach, texture))
 }
 
 // The pattern of an entry of the wedgelet list for n; or refusal 6.
-fn wedgelet_pattern(n: usize, entry: u32) -> Pattern
+fn listed_pattern(n: usize, entry: u32) -> Result<pattern::Pattern, Refusal>
     requires { size_ok n ≡ true }
-    ensures { result ≡ pattern_struct (answer (unless (ltb entry (length (wedgelet_list n))) 6 0) (get_or (built_list n) entry 0)) }
+    ensures { told pattern_number result
+        ≡ answer (unless (ltb entry (length (wedgelet_list n))) 6 0) (get_or (built_list n) entry 0) }
 {
     let mut words = [0u64; LIST_WORDS];
-    let built = wedgelet::wedgelets(n, &mut words);
-    let at = entry as usize;
-    match built {
-        Listed::Count(count) => {
-            if at < count {
-                return pattern_in(pattern::pattern_at(n, &words, at));
-            }
-            no_pattern(6)
-        }
-        Listed::Refused(number) => no_pattern(number),
-    }
+    let count = wedgelet::wedgelets(n, &mut words)?;
+    let entry = entry as usize;
+    pattern::check(entry < count, Refusal::Entry)?;
+    let list = PatternList {
+        words: &words,
+        count,
+    };
+    Ok(list.pattern_at(n, entry))
 }
 
-// The contour of the texture; or refusal 7 or 21.
-fn contour_pattern(n: usize, entry: u32, texture: &[u8]) -> Pattern
-    requires { (size_ok n ≡ true) × (texture_ok (length texture.now) (n * n) ≡ true) }
-    ensures { let refusal = unless (eqb entry 0) 7 (unless (textured texture.now) 21 0) in
-        result ≡ pattern_struct (answer refusal (contour_of n texture.now)) }
+// The pattern of a kind and an entry: of the wedgelet list for n, or the contour of the texture; or refusal 1, 2, 7, 21 or 6.
+#[tactic(auto, unfolding(crate::specs::Built::pattern_answer, crate::specs::Built::pattern_refusal))]
+fn pattern_of(n: usize, kind: u32, entry: u32, texture: &[u8]) -> Result<pattern::Pattern, Refusal>
+    ensures { told pattern_number result ≡ pattern_answer n kind entry texture.now }
 {
-    if entry != 0 {
-        return no_pattern(7);
-    }
-    if texture.len() == 0 {
-        return no_pattern(21);
-    }
-    match pattern::contour(n, texture) {
-        Contoured::Pattern(p) => pattern_in(p),
-        Contoured::Refused(number) => no_pattern(number),
+    pattern::check(pattern::size_ok(n), Refusal::Size)?;
+    pattern::check(pattern::texture_ok(texture.len(), n * n), Refusal::Length)?;
+    match Kind::try_from(kind)? {
+        Kind::Wedgelet => listed_pattern(n, entry),
+        Kind::Contour => {
+            pattern::check(entry == 0, Refusal::Kind)?;
+            pattern::check(!texture.is_empty(), Refusal::NoTexture)?;
+            pattern::contour(n, texture)
+        }
     }
 }
 
@@ -239,13 +246,5 @@ fn contour_pattern(n: usize, entry: u32, texture: &[u8]) -> Pattern
 pub fn depth_bench_pattern_of(n: usize, kind: u32, entry: u32, texture: &[u8]) -> Pattern
     ensures { result ≡ pattern_struct (pattern_answer n kind entry texture.now) }
 {
-    let refusal = texture_refusal(n, texture.len());
-    if refusal != 0 {
-        return no_pattern(refusal);
-    }
-    match kind {
-        0 => wedgelet_pattern(n, entry),
-        1 => contour_pattern(n, entry, texture),
-        _ => no_pattern(7),
-    }
+    Pattern::from(pattern_of(n, kind, entry, texture))
 }

@@ -1,4 +1,5 @@
-// The calls of `depth_bench` for C: include/depth_bench.h has their declarations. Each is one call of the library's function of that name.
+// The calls of `depth_bench` for C: include/depth_bench.h has their declarations. Each is one call of the library's function of that name,
+// with the parameters that C has.
 #![tactic(auto)]
 
 ghost use Rattle.std.specs.Prelude.{◌≡◌, ◌*◌, length};

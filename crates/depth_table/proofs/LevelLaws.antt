@@ -1,13 +1,13 @@
 -- Laws of the value at an index plus an offset: its range, and the steps in which the code finds it.
-use Prim.Native.Nat.{ℕ, ◌<◌}
+use Prim.Native.Nat.{ℕ, ◌-◌, ◌^◌, ◌<◌, min}
 use mathlib.Core.Path.{◌≡◌, ap, ◌∙◌}
 use mathlib.Core.Bool.{true}
 use mathlib.Core.List.{List}
 use native.Mathlib.Omega.{arith}
-use borrow.Author.Tests.{ltb-true}
-use lib.Dec.{ltb}
-use lib.IntN.{ℤ, pos, negsuc}
+use lib.IntN.{ℤ, pos, negsuc, ◌+ℤ◌}
 use lib.ListN.{length, get_or}
+use mir.Syntax.{w64}
+use Rattle.std.specs.Int.{saturate_unsigned}
 use Rattle.arith.specs.Checks.{given}
 use Rattle.arith.specs.Distance.{clamped}
 use Rattle.arith.proofs.Bools.{both_of}
@@ -15,6 +15,7 @@ use Rattle.depth_table.specs.Table.{table_ok, some_value, index_of}
 use Rattle.depth_table.specs.Answer.{nearest_answer, value_answer}
 use Rattle.depth_table.specs.Offset.{offset_ok, value_of, level_of}
 use Rattle.depth_table.proofs.TableLaws.{table-bytes}
+use Rattle.depth_table.proofs.OffsetLaws.{clamped_sum}
 
 -- every value of a sound table is below 256
 pub level-byte : (t : List ℕ) (d : ℕ) (off : ℤ) → table_ok t ≡ true → level_of t d off < 256
@@ -27,13 +28,11 @@ unfolding clamped
 clamped-lt count i (pos k) h = omega arith
 clamped-lt count i (negsuc k) h = omega arith
 
--- and so is one of the table's, where it has a value
-pub clamped-in : (count i : ℕ) (z : ℤ) {k : ℕ} → k ≡ clamped count i z → ltb 0 count ≡ true → k < count
-clamped-in count i z e h = rw e (clamped-lt count i z (ltb-true 0 count h))
-
--- the value there; b is the offset by its bits
-pub value-at : (t : List ℕ) (i : ℕ) {k : ℕ} {b : ℤ} (off : ℤ) → k ≡ clamped (length t) i b → b ≡ off → get_or t k 0 ≡ value_of t i off
-value-at t i off e o = ap (λ (x : ℕ). get_or t x 0) (e ∙ ap (clamped (length t) i) o)
+-- the value at the saturating sum, held to the last place; b is the offset by its bits
+pub value_held :
+    (t : List ℕ) (i : ℕ) (off : ℤ) {b : ℤ} {sum place : ℕ} → length t < 2 ^ 64 → b ≡ off → sum ≡ saturate_unsigned w64 (pos i +ℤ b)
+    → place ≡ min sum (length t - 1) → get_or t place 0 ≡ value_of t i off
+value_held t i off h o s p = rw (p, s, o) (ap (λ (k : ℕ). get_or t k 0) (clamped_sum (length t) i off h))
 
 -- ---- where there is a value nothing is refused
 

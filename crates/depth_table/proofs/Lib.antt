@@ -4,3 +4,4 @@ pub mod IndexLaws
 pub mod OffsetLaws
 pub mod LevelLaws
 pub mod RaisedLaws
+pub mod Uncited

@@ -1,14 +1,17 @@
--- Laws of sound tables: counts, values and order; and the steps of the loop that looks whether a table rises.
+-- Laws of sound tables: counts, values and order; and what the library's look at neighbours says of their order.
 use Prim.Native.Nat.{ℕ, zero, suc, ◌+◌, ◌≤◌, ◌<◌}
-use mathlib.Core.Path.{◌≡◌, refl}
-use mathlib.Core.Bool.{true, false}
+use mathlib.Core.Path.{◌≡◌, refl, sym}
+use mathlib.Core.Bool.{Bool, true, false}
 use mathlib.Core.List.{List, [], ◌∷◌}
+use mathlib.Core.Logic.{◌⊎◌, ⊎_elim}
+use mir.Syntax.{w8}
+use mir.Val.{Fits}
+use Rattle.std.specs.List.{IsAllAdjacentAnswer}
 use native.Mathlib.Omega.{arith}
 use native.Mathlib.Numerals.{add-one}
-use lib.ListN.{length, get_or, drop, drop_of_length-le}
-use lib.Seq.{drop-cons}
+use lib.ListN.{length, get_or}
 use lib.Dec.{leb, ltb}
-use borrow.Author.Tests.{le-leb, lt-leb, lt-ltb, le-ltb, leb-true, ltb-true}
+use borrow.Author.Tests.{le-leb, lt-leb, lt-ltb, le-ltb, leb-true, ltb-true, ltb-false}
 use Rattle.arith.proofs.Bools.{both_of}
 use Rattle.depth_table.specs.Table.{bytes, rising, most_values, some_value, table_ok}
 
@@ -56,20 +59,25 @@ rising-made (a ∷ t) low least more =
     rw (le-leb low a (least 0 (omega arith)))
     (rising-made t (suc a) (λ i l. more 0 (suc i) (omega arith) (omega arith)) (λ i j l m. more (suc i) (suc j) (omega arith) (omega arith)))
 
--- ---- the loop: the values from i on, the value a at i, and low, which is one more than the value before
-
-module _ (t : List ℕ) (i low : ℕ) (h : i < length t) {a : ℕ} (e : a ≡ get_or t i 0) where
-  pub rising-on : low ≤ a → rising (a + 1) (drop (i + 1) t) ≡ rising low (drop i t)
-  unfolding rising
-  rising-on l = rw (drop-cons t i 0 h, ← e, le-leb low a l, add-one a, add-one i)
-
-  pub rising-off : a < low → false ≡ rising low (drop i t)
-  unfolding rising
-  rising-off l = rw (drop-cons t i 0 h, ← e, lt-leb low a l)
-
-pub rising-end : (t : List ℕ) (i low : ℕ) → length t ≤ i → rising low (drop i t) ≡ true
+-- values of which each is less than the next rise
+adjacent_rise :
+    (t : List ℕ) (low : ℕ) → (0 < length t → low ≤ get_or t 0 0)
+    → ((k : ℕ) → suc k < length t → get_or t k 0 < get_or t (suc k) 0) → rising low t ≡ true
 unfolding rising
-rising-end t i low h = rw (drop_of_length-le t h)
+adjacent_rise [] low least more = refl
+adjacent_rise (a ∷ t) low least more =
+    rw (le-leb low a (least (omega arith)))
+    (adjacent_rise t (suc a) (λ l. more 0 (omega arith)) (λ k l. more (suc k) (omega arith)))
+
+-- what a look at each value and the next answers
+pub rising_answered : (t : List ℕ) (r : Bool) → IsAllAdjacentAnswer (λ x y b. b ≡ ltb x y) t r → r ≡ rising 0 t
+rising_answered t true h =
+    sym (adjacent_rise t 0 (λ l. omega arith) (λ k l. rw add-one at (ltb-true _ _ (sym (h k 0 (omega arith))))))
+rising_answered t false h =
+    elim (rising 0 t) as (λ b. rising 0 t ≡ b → false ≡ b) [
+      | true ↦ λ e. absurd (omega (arith, rising-at t 0 e h.0 (h.0 + 1) (omega arith) h.1, ltb-false _ _ (sym (h.2 0))))
+      | false ↦ λ e. refl
+    ] refl
 
 -- ---- sound tables
 
@@ -101,6 +109,15 @@ table_empty t h = simp (le-ltb 0 (length t) (omega arith))
 pub table_long : (t : List ℕ) → 256 < length t → false ≡ table_ok t
 unfolding table_ok
 table_long t h = simp (lt-ltb 0 (length t) (omega arith), lt-leb (length t) 256 h)
+
+-- so outside of 1 to 256 values the count decides, and among these the order
+pub table_miscounted : (t : List ℕ) → (length t < 1) ⊎ (256 < length t) → false ≡ table_ok t
+table_miscounted t = ⊎_elim (table_empty t) (table_long t)
+
+pub table_counted :
+    (t : List ℕ) {r : Bool} → ((i : ℕ) → Fits w8 (get_or t i 0)) → 1 ≤ length t → length t ≤ 256 → r ≡ rising 0 t → r ≡ table_ok t
+unfolding table_ok
+table_counted t h some few e = rw (lt-ltb 0 (length t) some, le-leb (length t) 256 few, bytes-made t (λ i. (h i).fits)) e
 
 -- 1 to 256 values
 pub table-counts : (t : List ℕ) → table_ok t ≡ true → (1 ≤ length t) × (length t ≤ most_values)

@@ -1,12 +1,10 @@
 -- What the calls on a depth table answer.
 use Rattle.std.specs.Prelude.{ℕ, List, [], ◌∷◌, ℤ}
-use Rattle.arith.specs.Checks.{refusal, Answer, refused, given, answer}
+use Rattle.arith.specs.Checks.{refusal, Answer, answer}
 use Rattle.depth_table.specs.Table.{table_ok, some_value, index_of}
 use Rattle.depth_table.specs.Offset.{offset_ok, value_of}
-use Rattle.depth_table.specs.declared.Indexed.{Indexed}
-use Rattle.depth_table.specs.declared.Indexed.TheVariants as indexed
-use Rattle.depth_table.specs.declared.Valued.{Valued}
-use Rattle.depth_table.specs.declared.Valued.TheVariants as valued
+use Rattle.depth_table.specs.declared.DepthIndex.{DepthIndex}
+use Rattle.depth_table.specs.declared.DepthValue.{DepthValue}
 
 -- 3: the table is not sound
 unfoldable pub index_refusal : List ℕ → ℕ
@@ -24,11 +22,9 @@ nearest_answer t d = answer (refusal ((some_value t, 3) ∷ []) 0) (index_of t d
 unfoldable pub value_answer : List ℕ → ℕ → ℤ → Answer ℕ
 value_answer t i off = answer (refusal ((some_value t, 3) ∷ (offset_ok off, 4) ∷ []) 0) (value_of t i off)
 
--- document 01's number or value for each case of the code's answer
-abbrev pub index_told : Indexed → Answer ℕ
-index_told (indexed.At k) = given k.0
-index_told (indexed.Refused number) = refused number
+-- the index and the value that the code answers
+abbrev pub place : DepthIndex → ℕ
+place k = k.0
 
-abbrev pub value_told : Valued → Answer ℕ
-value_told (valued.At v) = given v.0
-value_told (valued.Refused number) = refused number
+abbrev pub depth : DepthValue → ℕ
+depth v = v.0

@@ -3,14 +3,13 @@ use Rattle.std.specs.Prelude.{ℕ, List, ◌≡◌, pos}
 use Rattle.arith.specs.Checks.{Answer, refused, given}
 use Rattle.record.specs.declared.Record.{Record}
 use Rattle.record_file.specs.Reading.{Aids}
-use Rattle.record_read.specs.declared.reading.FileBack.{FileBack}
-use Rattle.record_read.specs.Back.{file_back, Lent, reading, Reads}
+use Rattle.record_read.specs.Back.{Back, file_back, Lent, reading, Reads}
 use Rattle.file_calls.specs.declared.FileRead.{FileRead}
 use Rattle.file_calls.specs.declared.FileWritten.{FileWritten}
 use Rattle.file_calls.specs.declared.FileChosen.{FileChosen}
 
 -- what `read` answered
-abbrev pub file_read_of : FileBack → FileRead
+abbrev pub file_read_of : Back → FileRead
 file_read_of b =
     record {
       refusal = b.refusal;

@@ -1,21 +1,24 @@
 // Calls for the outside tests and the benchmarks, which link libfile_calls.a: those of the record file, and the choice with the list lent.
-// They are not part of include/depth_bench.h.
+// They are not part of include/depth_bench.h. C's interface needs their forms: a refusal's number beside zeros, and a list beside its
+// count.
 #![tactic(auto)]
 
 ghost use Rattle.std.specs.Prelude.{◌≡◌, length};
+ghost use Rattle.pattern.specs.Refusal.{told};
 ghost use Rattle.pattern.specs.Words.{patterns_of};
 ghost use Rattle.choice.specs.Case.{case_of};
-ghost use Rattle.choice.specs.Answer.{choose_answer};
+ghost use Rattle.choice.specs.Answer.{choose_answer, chosen_values};
 ghost use Rattle.sheet.specs.State.{state_of};
 ghost use Rattle.record.specs.Lent.{record_at};
 ghost use Rattle.record_file.specs.Writing.{source_of, write_answer, write_after};
 ghost use Rattle.record_file.specs.Reading.{aids_of};
-ghost use Rattle.record_read.specs.Back.{lent_of};
-ghost use Rattle.file_calls.specs.Structs.{CallReads, file_written_of, chosen_of};
+ghost use Rattle.record_read.specs.Back.{lent_of, back_told};
+ghost use Rattle.file_calls.specs.Structs.{CallReads, file_read_of, file_written_of, chosen_of};
 
-use choice::Choice;
 use depth_table::VALUES;
-use record_write::Wrote;
+use pattern::{PatternList, Refusal};
+use record_file::ReadInput;
+use record_read::{FileBack, LineRefusal};
 use sheet::Sheet;
 
 // What reading answers: the number of a refusal (0 for none) and its line; where there is none, the finished state, and the table with its
@@ -54,11 +57,80 @@ pub struct FileChosen {
     pub tried: u32,
 }
 
-// A byte as a longer number.
-fn wide(number: u8) -> u32
-    ensures { result ≡ number }
-{
-    number as u32
+// What `record_read::read` answers, as C gets it.
+impl From<Result<FileBack, LineRefusal>> for FileRead {
+    ghost from_gives = { λ answer r. r ≡ file_read_of (back_told answer) };
+
+    fn from(answer: Result<FileBack, LineRefusal>) -> FileRead {
+        match answer {
+            Ok(back) => {
+                let table = back.table;
+                FileRead {
+                    refusal: 0,
+                    line: 0,
+                    n: back.sheet.n,
+                    width: back.sheet.width,
+                    height: back.sheet.height,
+                    placed: back.sheet.placed,
+                    values: back.values,
+                    table,
+                }
+            }
+            Err(refused) => FileRead {
+                refusal: u32::from(u8::from(refused.refusal)),
+                line: refused.line,
+                n: 0,
+                width: 0,
+                height: 0,
+                placed: 0,
+                values: 0,
+                table: [0u8; VALUES],
+            },
+        }
+    }
+}
+
+// What `record_write::write` answers, as C gets it.
+impl From<Result<usize, Refusal>> for FileWritten {
+    ghost from_gives = { λ answer w. w ≡ file_written_of (told (λ length. length) answer) };
+
+    fn from(answer: Result<usize, Refusal>) -> FileWritten {
+        match answer {
+            Ok(length) => FileWritten { refusal: 0, length },
+            Err(refusal) => FileWritten {
+                refusal: u32::from(u8::from(refusal)),
+                length: 0,
+            },
+        }
+    }
+}
+
+// What `choice::choose` answers, as C gets it.
+impl From<Result<choice::Choice, Refusal>> for FileChosen {
+    ghost from_gives = { λ answer c. c ≡ chosen_of (told chosen_values answer) };
+
+    fn from(answer: Result<choice::Choice, Refusal>) -> FileChosen {
+        match answer {
+            Ok(best) => FileChosen {
+                refusal: 0,
+                kind: best.record.kind,
+                entry: best.record.entry,
+                off0: best.record.off0,
+                off1: best.record.off1,
+                cost: best.cost,
+                tried: best.tried,
+            },
+            Err(refusal) => FileChosen {
+                refusal: u32::from(u8::from(refusal)),
+                kind: 0,
+                entry: 0,
+                off0: 0,
+                off1: 0,
+                cost: 0,
+                tried: 0,
+            },
+        }
+    }
 }
 
 // Reads a file with a list for each size into the lent slices, as `record_read::read` does.
@@ -71,7 +143,7 @@ pub extern "C" fn file_calls_read<'a>(
     count8: usize,
     list16: &'a [u64],
     count16: usize,
-    texture: &[u8],
+    texture: &'a [u8],
     samples: &mut [u8],
     records: &mut [[i32; 4]],
 ) -> FileRead
@@ -79,20 +151,22 @@ pub extern "C" fn file_calls_read<'a>(
         let before = lent_of samples.old records.old in
         CallReads A before bytes.now result (lent_of samples.new records.new) }
 {
-    let back = record_read::read(
-        bytes, list4, count4, list8, count8, list16, count16, texture, samples, records,
-    );
-    let table = back.table;
-    FileRead {
-        refusal: wide(back.refusal),
-        line: back.line,
-        n: back.sheet.n,
-        width: back.sheet.width,
-        height: back.sheet.height,
-        placed: back.sheet.placed,
-        values: back.values,
-        table,
-    }
+    let input = ReadInput {
+        list4: PatternList {
+            words: list4,
+            count: count4,
+        },
+        list8: PatternList {
+            words: list8,
+            count: count8,
+        },
+        list16: PatternList {
+            words: list16,
+            count: count16,
+        },
+        texture,
+    };
+    FileRead::from(record_read::read(bytes, input, samples, records))
 }
 
 // Writes the file of a state into the lent bytes, as `record_write::write` does.
@@ -121,14 +195,8 @@ pub extern "C" fn file_calls_write(
         height,
         placed,
     };
-    let wrote = record_write::write(sheet, list, count, table, records, out);
-    match wrote {
-        Wrote::Length(length) => FileWritten { refusal: 0, length },
-        Wrote::Refused(number) => FileWritten {
-            refusal: wide(number),
-            length: 0,
-        },
-    }
+    let list = PatternList { words: list, count };
+    FileWritten::from(record_write::write(sheet, list, table, records, out))
 }
 
 // The record of least cost, as `choice::choose` finds it in the lent list.
@@ -147,25 +215,14 @@ pub extern "C" fn file_calls_choose(
         table.now reach texture.now in
         result ≡ chosen_of (choose_answer C) }
 {
-    let answer = choice::choose(n, list, count, border, original, table, reach, texture);
-    match answer {
-        Choice::Chosen(best, cost, tried) => FileChosen {
-            refusal: 0,
-            kind: best.kind,
-            entry: best.entry,
-            off0: best.off0,
-            off1: best.off1,
-            cost,
-            tried,
-        },
-        Choice::Refused(refusal) => FileChosen {
-            refusal: wide(refusal),
-            kind: 0,
-            entry: 0,
-            off0: 0,
-            off1: 0,
-            cost: 0,
-            tried: 0,
-        },
-    }
+    let input = choice::Input {
+        n,
+        list: PatternList { words: list, count },
+        border,
+        original,
+        table,
+        reach,
+        texture,
+    };
+    FileChosen::from(choice::choose(input))
 }

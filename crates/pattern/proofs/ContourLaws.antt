@@ -6,7 +6,8 @@ use mathlib.Core.Path.{◌≡◌, refl, sym, ap, ◌∙◌}
 use native.Mathlib.Omega.{arith}
 use borrow.Author.Tests.{ltb-true}
 use lib.Dec.{ltb}
-use lib.ListN.{get_or}
+use lib.ListN.{length, get_or, take, drop, length-drop}
+use lib.Seq.{length-take-le, get_or-take, get_or-drop}
 use Rattle.arith.specs.Bits.{bits, test_bit}
 use Rattle.arith.specs.Square.{place, transposed_list}
 use Rattle.arith.proofs.BitLaws.{bits-lt, bits-ext, bits_at, bits-all}
@@ -23,30 +24,47 @@ pub contour-lt : (n : ℕ) (t : List ℕ) → contour_of n t < 2 ^ (n * n)
 unfolding contour_of
 contour-lt n t = bits-lt _ (n * n)
 
+-- which samples are above a level
+abbrev pub marks_above : ℕ → List ℕ → ℕ
+marks_above level s = bits (λ i. ltb level (get_or s i 0)) (length s)
+
 -- the samples above a level from one place on
-abbrev above_from : List ℕ → ℕ → ℕ → ℕ → Bool
+abbrev pub above_from : List ℕ → ℕ → ℕ → ℕ → Bool
 above_from t level from i = ltb level (get_or t (from + i) 0)
 
+-- which of m samples from one place on are above a level
+part : (t : List ℕ) (level at m : ℕ) → at + m ≤ length t → marks_above level (take m (drop at t)) ≡ bits (above_from t level at) m
+part t level at m h =
+    let e : length (take m (drop at t)) ≡ m = length-take-le m (drop at t) (omega (arith, length-drop at t)) in
+    rw e
+    (bits-ext _ _ m
+    (λ i l. ap (λ (x : ℕ). ltb level x) (get_or-take m (drop at t) i 0 l ∙ get_or-drop at t i 0)))
+
+-- bits of a function from one place on, where the place may be another one if there are none
+moved :
+    (f : ℕ → Bool) {a b k m : ℕ} → k ≡ m → ((i : ℕ) → i < k → a ≡ b) → bits (λ i. f (a + i)) k ≡ bits (λ i. f (b + i)) m
+moved f {a} {b} {k} e h =
+    bits-ext (λ i. f (a + i)) (λ i. f (b + i)) k (λ i l. ap (λ (x : ℕ). f (x + i)) (h i l)) ∙ ap (bits (λ i. f (b + i))) e
+
 -- the contour as the code makes it: four words, each of at most 64 of the samples that are left
-pub contour-words :
-    (n : ℕ) (t : List ℕ) {level a b c d c1 c2 c3 m0 m1 m2 m3 : ℕ} → n ≤ greatest_size → level ≡ threshold n t
-    → c1 ≡ n * n - 64 → c2 ≡ c1 - 64 → c3 ≡ c2 - 64 → m0 ≡ min (n * n) 64 → m1 ≡ min c1 64 → m2 ≡ min c2 64 → m3 ≡ min c3 64
-    → a ≡ bits (λ i. above_from t level 0 i) m0 → b ≡ bits (λ i. above_from t level 64 i) m1
-    → c ≡ bits (λ i. above_from t level 128 i) m2 → d ≡ bits (λ i. above_from t level 192 i) m3
+pub contour-parts :
+    (n : ℕ) (t : List ℕ) {level a b c d m1 m2 m3 : ℕ} → n ≤ greatest_size → length t ≡ n * n → level ≡ threshold n t
+    → m1 ≡ min (length t) 64 → m2 ≡ min (length t) 128 → m3 ≡ min (length t) 192
+    → a ≡ marks_above level (take m1 t) → b ≡ marks_above level (take (m2 - m1) (drop m1 t))
+    → c ≡ marks_above level (take (m3 - m2) (drop m2 t)) → d ≡ marks_above level (take (length t - m3) (drop m3 t))
     → four_words a b c d ≡ contour_of n t
 unfolding contour_of
-contour-words n t {level} {c1 = c1} {c2 = c2} {c3 = c3} {m0 = m0} h e e1 e2 e3 k0 k1 k2 k3 p q r u =
-    let g2 : c2 ≡ n * n - 64 - 64 = e2 ∙ ap (λ (x : ℕ). x - 64) e1 in
-    let g3 : c3 ≡ n * n - 64 - 64 - 64 = e3 ∙ ap (λ (x : ℕ). x - 64) g2 in
+contour-parts n t {level} {m1 = m1} {m2 = m2} {m3 = m3} h square e k1 k2 k3 p q r u =
     let f : ℕ → Bool = λ i. ltb level (get_or t i 0) in
-    let first : bits (λ i. above_from t level 0 i) m0 ≡ bits f m0 =
-    bits-ext _ _ m0 (λ i _. ap (λ (j : ℕ). ltb level (get_or t j 0)) (let z : 0 + i ≡ i = omega arith in z)) in
+    let c = length t in
+    let small : c ≤ 256 = omega (arith, square, square-256 h) in
     four_same
-    (p ∙ first ∙ ap (bits f) k0)
-    (q ∙ ap (bits (above_from t level 64)) (k1 ∙ ap (λ (x : ℕ). min x 64) e1))
-    (r ∙ ap (bits (above_from t level 128)) (k2 ∙ ap (λ (x : ℕ). min x 64) g2))
-    (u ∙ ap (bits (above_from t level 192)) (k3 ∙ ap (λ (x : ℕ). min x 64) g3))
-    ∙ sym (four-parted f (n * n) (square-256 h))
+    (p ∙ part t level 0 m1 (omega (arith, k1)) ∙ bits-ext _ _ m1 (λ i _. ap f (let z : 0 + i ≡ i = omega arith in z)) ∙ ap (bits f) k1)
+    (q ∙ part t level m1 (m2 - m1) (omega (arith, k1, k2)) ∙ moved f (omega (arith, k1, k2)) (λ i l. omega (arith, k1, k2)))
+    (r ∙ part t level m2 (m3 - m2) (omega (arith, k2, k3)) ∙ moved f (omega (arith, k2, k3)) (λ i l. omega (arith, k2, k3)))
+    (u ∙ part t level m3 (c - m3) (omega (arith, k3)) ∙ moved f (omega (arith, k3)) (λ i l. omega (arith, k3)))
+    ∙ sym (four-parted f c small)
+    ∙ ap (bits f) square
     ∙ ap (λ (k : ℕ). bits (λ i. ltb k (get_or t i 0)) (n * n)) e
 
 -- two corners change places, and two stay

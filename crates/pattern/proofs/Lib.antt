@@ -4,3 +4,4 @@ pub mod WordLaws
 pub mod PatternLaws
 pub mod ContourLaws
 pub mod AnswerLaws
+pub mod Uncited

@@ -1,15 +1,14 @@
-// Patterns of n by n samples, and the contour; the steps of a chain of checks.
+// Patterns of n by n samples, and the contour; what a call refuses.
 #![tactic(auto)]
 
 mod checks;
 mod contours;
+mod refusals;
 mod size;
 mod words;
 
-pub use checks::{check, count_ok, lesser, texture_ok};
-pub use contours::{Contoured, contour, samples_refusal};
+pub use checks::texture_ok;
+pub use contours::{check_samples, contour};
+pub use refusals::{Refusal, check};
 pub use size::{GREATEST_SIZE, NEIGHBOURS, SAMPLES, size_ok};
-pub use words::{
-    Pattern, WORDS, mark_at, marks, one_word, pattern_at, used_words, whole_patterns, word_ok,
-    words_of,
-};
+pub use words::{Pattern, PatternList, WORDS, count_ok, whole_patterns, words_of};

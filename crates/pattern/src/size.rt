@@ -15,11 +15,5 @@ pub const NEIGHBOURS: usize = 4 * GREATEST_SIZE;
 pub fn size_ok(n: usize) -> bool
     ensures { result ≡ size_ok n }
 {
-    if n == 4 {
-        return true;
-    }
-    if n == 8 {
-        return true;
-    }
-    n == GREATEST_SIZE
+    matches!(n, 4 | 8 | GREATEST_SIZE)
 }

@@ -1,6 +1,6 @@
 -- What holds where no check of `predict` fails.
 use Prim.Native.Nat.{ℕ, ◌*◌, ◌^◌, ◌≤◌, ◌<◌}
-use mathlib.Core.Path.{◌≡◌, sym, ap, ap₂, ◌∙◌}
+use mathlib.Core.Path.{◌≡◌, sym, ap, ◌∙◌}
 use mathlib.Core.Bool.{Bool, true}
 use mathlib.Core.List.{List}
 use native.Mathlib.Omega.{arith}
@@ -10,50 +10,48 @@ use lib.IntN.{ℤ}
 use lib.ListN.{length}
 use borrow.Author.Tests.{eqb-true, ltb-true}
 use Rattle.arith.specs.Bits.{bit, test_bit}
-use Rattle.arith.specs.Checks.{Answer, refused, given}
+use Rattle.arith.specs.Checks.{Answer, refused, given, answer}
 use Rattle.arith.specs.Sum.{sum_to}
 use Rattle.arith.proofs.Bools.{both_of}
-use Rattle.arith.proofs.CheckLaws.{holds, answer-refused, lent-refused, given-means}
+use Rattle.arith.proofs.CheckLaws.{holds, refused-by, refused-means, answer-given, given-means, lent-refused, lent-given}
 use Rattle.depth_table.specs.Table.{table_ok, some_value}
 use Rattle.pattern.specs.Size.{greatest_size, size_ok}
 use Rattle.pattern.proofs.PatternLaws.{marks-counted}
 use Rattle.pattern.proofs.SizeLaws.{size-bounds}
 use Rattle.depth_table.specs.Offset.{offset_ok, offsets_ok, offsets_usable}
+use Rattle.prediction.specs.Block.{predicted}
 use Rattle.prediction.specs.Answer.{lengths_ok, predict_checks, predict_refusal_by, predict_answer_by, predict_block_by, predict_answer, Predictable}
 
--- the checks of offsets that are read from their bits
-pub offsets-read :
-    (asked : Bool) (n w neighbours values samples : ℕ) {number : ℕ} {off0 off1 y z : ℤ} → y ≡ off0 → z ≡ off1
-    → number ≡ predict_refusal_by asked n w neighbours values y z samples
-    → number ≡ predict_refusal_by asked n w neighbours values off0 off1 samples
-offsets-read asked n w neighbours values samples e f p = p ∙ ap₂ (λ (x y : ℤ). predict_refusal_by asked n w neighbours values x y samples) e f
+module _ (asked : Bool) (n : ℕ) (s t : List ℕ) (off0 off1 : ℤ) (held : List ℕ) {w v : ℕ} (e : w ≡ v) where
+  -- the number that the checks say of the pattern w, or of an equal one
+  abbrev number_by : ℕ → ℕ
+  number_by x = predict_refusal_by asked n x (length s) (length t) off0 off1 (length held)
 
--- answer and block by an equal pattern
-pub predicts-as :
-    (asked : Bool) (n : ℕ) (s t : List ℕ) (off0 off1 : ℤ) (held : List ℕ) {w w' : ℕ} {new : List ℕ} {r : Answer ℕ} → w ≡ w'
-    → (r ≡ predict_answer_by asked n w s t off0 off1 (length held)) × (new ≡ predict_block_by asked n w s t off0 off1 held)
-    → (r ≡ predict_answer_by asked n w' s t off0 off1 (length held)) × (new ≡ predict_block_by asked n w' s t off0 off1 held)
-predicts-as asked n s t off0 off1 held e p = (
-  p.0 ∙ ap (λ (x : ℕ). predict_answer_by asked n x s t off0 off1 (length held)) e,
-  p.1 ∙ ap (λ (x : ℕ). predict_block_by asked n x s t off0 off1 held) e,
-)
+  -- where a check fails, its number is answered and the lent block stays as it was
+  module _ {k : ℕ} (h : ◌≡◌ {A = Answer (Unit {0})} (refused k) (answer (number_by w) tt)) where
+    failing : (k ≡ number_by v) × (number_by v ≡ 0 → ⊥)
+    failing = rw e at (refused-means (number_by w) k tt (sym h))
 
--- by an equal test of the table, and offsets that are read from their bits
-pub asked-as :
-    (n w : ℕ) (s t held : List ℕ) {a b : Bool} {off0 off1 y z : ℤ} {new : List ℕ} {r : Answer ℕ} → a ≡ b → y ≡ off0 → z ≡ off1
-    → (r ≡ predict_answer_by a n w s t y z (length held)) × (new ≡ predict_block_by a n w s t y z held)
-    → (r ≡ predict_answer_by b n w s t off0 off1 (length held)) × (new ≡ predict_block_by b n w s t off0 off1 held)
-asked-as n w s t held e f g p = rw (e, f, g) at p
+    pub answer-refusing : refused k ≡ predict_answer_by asked n v s t off0 off1 (length held)
+    unfolding predict_answer_by
+    answer-refusing = refused-by (ones v) failing.0 (λ z. failing.1 (sym failing.0 ∙ z))
 
--- where a check fails, its number is answered and the lent block stays as it was
-pub refusal-leaves :
-    (asked : Bool) (n w : ℕ) (s t held : List ℕ) {number : ℕ} {off0 off1 y z : ℤ}
-    → number ≡ predict_refusal_by asked n w (length s) (length t) y z (length held) → y ≡ off0 → z ≡ off1 → (number ≡ 0 → ⊥)
-    → (refused number ≡ predict_answer_by asked n w s t off0 off1 (length held)) × (held ≡ predict_block_by asked n w s t off0 off1 held)
-unfolding predict_answer_by predict_block_by
-refusal-leaves asked n w s t held p e f h =
-    let q = offsets-read asked n w (length s) (length t) (length held) e f p in
-    (rw (← q) (answer-refused _ _ h), rw (← q) (lent-refused _ _ _ h))
+    pub block-refusing : held ≡ predict_block_by asked n v s t off0 off1 held
+    unfolding predict_block_by
+    block-refusing = lent-refused (number_by v) _ held failing.1
+
+  -- and where none does, the marks are answered and the block is the predicted one
+  module _ (h : ◌≡◌ {A = Answer (Unit {0})} (given tt) (answer (number_by w) tt)) where
+    passing : number_by v ≡ 0
+    passing = rw e at (given-means (number_by w) tt tt (sym h)).0
+
+    pub answer-giving : {marks : ℕ} → marks ≡ ones w → given marks ≡ predict_answer_by asked n v s t off0 off1 (length held)
+    unfolding predict_answer_by
+    answer-giving p = ap given (p ∙ ap ones e) ∙ answer-given (number_by v) (ones v) passing
+
+    pub block-giving : {new : List ℕ} → new ≡ predicted n w s t off0 off1 → new ≡ predict_block_by asked n v s t off0 off1 held
+    unfolding predict_block_by
+    block-giving p = p ∙ ap (λ (x : ℕ). predicted n x s t off0 off1) e ∙ lent-given (number_by v) _ held passing
 
 -- nothing is refused
 pub record PredictAccepted (asked : Bool) (n w neighbours values : ℕ) (off0 off1 : ℤ) (samples : ℕ) : Type 0 where

@@ -1,18 +1,15 @@
 -- Laws of the side depths as the code reads them, and their range.
-use Prim.Native.Nat.{ℕ, ◌+◌, ◌-◌, ◌*◌, ◌/◌, ◌≤◌, ◌<◌}
-use mathlib.Core.Path.{◌≡◌, sym, ap, ◌∙◌}
+use Prim.Native.Nat.{ℕ, ◌+◌, ◌-◌, ◌*◌, ◌/◌, ◌<◌}
+use mathlib.Core.Path.{◌≡◌, ap}
 use mathlib.Core.Bool.{Bool, true, false, cond}
 use mathlib.Core.List.{List}
-use native.Mathlib.Nat.{mul-le-mul, zero-mul, zero-add, add-zero}
+use native.Mathlib.Nat.{zero-mul, zero-add, add-zero}
 use native.Mathlib.Omega.{arith}
 use lib.Dec.{ltb}
 use lib.ListN.{get_or}
-use borrow.Author.Tests.{lt-ltb, le-ltb}
 use Rattle.arith.specs.Bits.{test_bit}
-use Rattle.arith.specs.Distance.{dist}
-use Rattle.pattern.specs.Size.{greatest_size, greatest_samples}
 use Rattle.pattern.specs.Pattern.{mark}
-use Rattle.prediction.specs.Sides.{left_at, top_at, left_change, top_change, differ, vert_edge, hor_edge, lt_by, br_by, lt, br, side_depth}
+use Rattle.prediction.specs.Sides.{left_change, top_change, differ, vert_edge, hor_edge, lt_by, br_by, lt, br, side_depth}
 
 -- ---- the corners
 
@@ -28,40 +25,9 @@ pub hor-edge-bits : (n w : ℕ) → hor_edge n w ≡ differ (test_bit w 0) (test
 unfolding hor_edge
 hor-edge-bits n w = simp (zero-mul, add-zero)
 
--- the lower left corner is a place of a pattern
-pub corner-256 : (n : ℕ) → n ≤ greatest_size → (n - 1) * n < greatest_samples
-corner-256 n h =
-    let l : n - 1 ≤ 15 = omega arith in
-    omega (arith, mul-le-mul l h)
-
 pub side-depth-bits : (n w : ℕ) (s : List ℕ) (m : Bool) → side_depth n w s m ≡ cond (differ m (test_bit w 0)) (br n w s) (lt n w s)
 unfolding side_depth
 side-depth-bits n w s m = ap (λ (b : Bool). cond (differ m b) (br n w s) (lt n w s)) (origin-bit n w)
-
--- that depth by the code's test t of the mark m and bit 0
-module _ (n w : ℕ) (s : List ℕ) (m : Bool) {t b : Bool} (e : t ≡ differ m b) (f : b ≡ test_bit w 0) where
-  by-test : cond t (br n w s) (lt n w s) ≡ side_depth n w s m
-  by-test = ap (λ (x : Bool). cond x (br n w s) (lt n w s)) (e ∙ ap (differ m) f) ∙ sym (side-depth-bits n w s m)
-
-  pub other-side : t ≡ true → br n w s ≡ side_depth n w s m
-  other-side h = ap (λ (x : Bool). cond x (br n w s) (lt n w s)) (sym h) ∙ by-test
-
-  pub this-side : t ≡ false → lt n w s ≡ side_depth n w s m
-  this-side h = ap (λ (x : Bool). cond x (br n w s) (lt n w s)) (sym h) ∙ by-test
-
--- ---- the ends of the runs, by the code's test of how much each run changes
-
-module _ (n : ℕ) (s : List ℕ) {a b : ℕ} (e : a ≡ dist (get_or s (2 * n) 0) (top_at n s (2 * n - 1))) (f : b ≡ left_change n s) where
-  top-run : a ≡ top_change n s
-  top-run = e ∙ ap (λ (k : ℕ). dist (get_or s k 0) (top_at n s (2 * n - 1))) (sym (add-zero (2 * n)))
-
-  pub far-left : a < b → left_at s (2 * n - 1) ≡ br_by n s false false
-  unfolding br_by
-  far-left h = rw (lt-ltb (top_change n s) (left_change n s) (rw (top-run, f) at h))
-
-  pub far-top : b ≤ a → top_at n s (2 * n - 1) ≡ br_by n s false false
-  unfolding br_by
-  far-top h = rw (le-ltb (top_change n s) (left_change n s) (rw (top-run, f) at h))
 
 -- ---- the range: side depths are below 256 where all neighbours are
 

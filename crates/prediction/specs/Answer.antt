@@ -2,13 +2,11 @@
 -- does the same of any values, rising or not: of the table it asks only that there is one.
 use Rattle.std.specs.Prelude.{ℕ, ◌*◌, ◌≤◌, Bool, true, ◌&&◌, List, ◌∷◌, ◌≡◌, eqb, ℤ, length}
 use Rattle.std.specs.Int.Count.{ones}
-use Rattle.arith.specs.Checks.{refusal, Answer, refused, given, answer, lent}
+use Rattle.arith.specs.Checks.{refusal, Answer, answer, lent}
 use Rattle.depth_table.specs.Table.{table_ok, some_value}
 use Rattle.pattern.specs.Size.{greatest_size, size_ok, word_ok}
 use Rattle.depth_table.specs.Offset.{offset_ok, offset_checks}
 use Rattle.prediction.specs.Block.{predicted}
-use Rattle.prediction.specs.declared.Predicted.{Predicted}
-use Rattle.prediction.specs.declared.Predicted.TheVariants as block
 
 -- as many neighbours as 4n, and as many samples in the lent block as n * n
 unfoldable pub lengths_ok : ℕ → ℕ → ℕ → Bool
@@ -56,8 +54,3 @@ pub record Predictable (n : ℕ) (s t : List ℕ) (off0 off1 : ℤ) : Type 0 whe
   pub valued : some_value t ≡ true
   pub first : offset_ok off0 ≡ true
   pub second : offset_ok off1 ≡ true
-
--- document 01's number or value for each case of the code's answer
-abbrev pub predict_told : Predicted → Answer ℕ
-predict_told (block.Marks count) = given count
-predict_told (block.Refused number) = refused number

@@ -6,18 +6,23 @@ mod sides;
 
 pub use block::{predict, predict_from_values};
 use depth_table::DepthValue;
+use pattern::Pattern;
 pub use sides::side_depths;
 
-// What `predict` and `predict_from_values` answer: the number of marks, or the number of the refusal.
+// The depths of the two sides: lt of the one that holds (0,0), br of the other.
 #[derive(Clone, Copy)]
-pub enum Predicted {
-    Marks(u32),
-    Refused(u8),
+pub struct SideDepths {
+    pub lt: DepthValue,
+    pub br: DepthValue,
 }
 
-// What `side_depths` answers: lt and br (document 01: A and B), or the number of its refusal.
+// What a block is predicted from: its size, its pattern, its neighbours, the depth table, and the offsets of partitions 0 and 1.
 #[derive(Clone, Copy)]
-pub enum SideDepths {
-    Sides(DepthValue, DepthValue),
-    Refused(u8),
+pub struct Input<'a> {
+    pub n: usize,
+    pub pattern: Pattern,
+    pub border: &'a [u8],
+    pub table: &'a [u8],
+    pub off0: i32,
+    pub off1: i32,
 }

@@ -1,3 +1,4 @@
 -- Laws of the definitions.
 pub mod MeaningLaws
 pub mod LentLaws
+pub mod Uncited

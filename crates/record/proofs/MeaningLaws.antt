@@ -3,16 +3,37 @@ use Prim.Native.Nat.{ℕ, zero, suc, ◌<◌}
 use mathlib.Core.Bool.{Bool, true}
 use mathlib.Core.List.{List}
 use mathlib.Core.Logic.{◌⊎◌, inl, inr, ⊎_elim}
-use mathlib.Core.Path.{◌≡◌, refl, sym, ◌∙◌}
+use mathlib.Core.Path.{◌≡◌, refl, sym, ap, ap₂, ◌∙◌}
 use native.Mathlib.Omega.{arith}
 use borrow.Author.Tests.{lt-ltb, ltb-true, eqb-true}
 use lib.ListN.{get_or}
 use Rattle.arith.specs.Checks.{Answer, refused, given, answer}
-use Rattle.arith.proofs.CheckLaws.{holds, passes, given-means, refused-means}
+use Rattle.arith.proofs.CheckLaws.{holds, passes, kept, refused-by, given-means, refused-means}
+use Rattle.pattern.specs.Refusal.{number_of}
+use Rattle.pattern.specs.declared.refusals.Refusal.{Refusal}
+use Rattle.pattern.specs.declared.refusals.Refusal.TheVariants as refusal
 use Rattle.pattern.specs.Size.{word_ok}
 use Rattle.depth_table.specs.Offset.{offset_checks}
 use Rattle.record.specs.declared.Record.{Record}
 use Rattle.record.specs.Meaning.{Named, listed, contour, offset_refusal, kind_meaning, kind_refusal, record_meaning, record_refusal, pattern_named, Sound}
+
+-- no refusal has the number 0
+number-some : (f : Refusal) → number_of f ≡ 0 → ⊥
+number-some refusal.Size h = omega arith
+number-some refusal.Length h = omega arith
+number-some refusal.Table h = omega arith
+number-some refusal.Offset h = omega arith
+number-some refusal.Pattern h = omega arith
+number-some refusal.Entry h = omega arith
+number-some refusal.Kind h = omega arith
+number-some refusal.Sides h = omega arith
+number-some refusal.Form h = omega arith
+number-some refusal.NoPattern h = omega arith
+number-some refusal.Full h = omega arith
+number-some refusal.NoTexture h = omega arith
+number-some refusal.Missing h = omega arith
+number-some refusal.Placed h = omega arith
+number-some refusal.OffsetPastTable h = omega arith
 
 module _ (n : ℕ) (list : List ℕ) (count : ℕ) (lent : Bool) where
   -- an entry of the list, and the contour of lent texture, pass their checks
@@ -54,25 +75,32 @@ module _ (n : ℕ) (list : List ℕ) (count : ℕ) (lent : Bool) (values : ℕ) 
       h.names
       ∙ passes (offset_checks values r.off0 r.off1) 0 (h.allowed, (h.usable, tt))
 
-  -- a record's meaning as the code finds it, by the clause of its kind
-  pub meaning-by :
-      {kind rest : ℕ} {x : Answer Named} → r.kind ≡ kind → rest ≡ offset_refusal values r
-      → x ≡ answer (kind_refusal n list count lent kind r.entry rest) (kind_meaning n list count lent kind r.entry).1
-      → x ≡ record_meaning n list count lent values r
-  unfolding record_meaning record_refusal
-  meaning-by e o h = rw (e, ← o) h
+  -- what kind and entry name, before the offsets are looked at
+  abbrev named_first : Answer Named
+  named_first = answer (kind_refusal n list count lent r.kind r.entry 0) (kind_meaning n list count lent r.kind r.entry).1
 
-  -- a kind that is not 0 or 1
-  pub meaning-other : (r.kind ≡ 0 → ⊥) → (r.kind ≡ 1 → ⊥) → refused 7 ≡ record_meaning n list count lent values r
+  -- a record is refused by its kind and entry, or else by an offset; or its meaning is found
+  pub by_kind : {k : ℕ} → refused k ≡ named_first → refused k ≡ record_meaning n list count lent values r
   unfolding record_meaning record_refusal
-  meaning-other h l = go r.kind h l
-    where
-      go :
-          (kind : ℕ) → (kind ≡ 0 → ⊥) → (kind ≡ 1 → ⊥)
-          → refused 7 ≡ answer (kind_refusal n list count lent kind r.entry (offset_refusal values r)) (kind_meaning n list count lent kind r.entry).1
-      go zero h l = absurd (h refl)
-      go (suc zero) h l = absurd (l refl)
-      go (suc (suc k)) h l = refl
+  by_kind {k} e =
+      let m = kind_meaning n list count lent r.kind r.entry in
+      let x = refused-means (kind_refusal n list count lent r.kind r.entry 0) k m.1 (sym e) in
+      e ∙ ap (λ (j : ℕ). answer j m.1) (sym (kept m.0 (offset_refusal values r) x.1))
+
+  module _ {x : Named} (e : given x ≡ named_first) where
+    offsets_decide : answer (offset_refusal values r) x ≡ record_meaning n list count lent values r
+    unfolding record_meaning record_refusal
+    offsets_decide =
+        let m = kind_meaning n list count lent r.kind r.entry in
+        let y = given-means (kind_refusal n list count lent r.kind r.entry 0) m.1 x (sym e) in
+        ap₂ answer (sym (passes m.0 (offset_refusal values r) (holds m.0 0 y.0).0)) (sym y.1)
+
+    pub by_offset :
+        (f : Refusal) → number_of f ≡ offset_refusal values r → refused (number_of f) ≡ record_meaning n list count lent values r
+    by_offset f h = refused-by x h (number-some f) ∙ offsets_decide
+
+    pub found : 0 ≡ offset_refusal values r → given x ≡ record_meaning n list count lent values r
+    found h = rw (← h) at offsets_decide
 
   -- the meaning that is answered
   pub meaning-given :

@@ -8,33 +8,37 @@ use crate::Record;
 fn unsigned_of(z: i32) -> u32
     ensures { result ≡ unsigned z }
 {
-    if z < 0 { 2147483648 } else { z as u32 }
+    u32::try_from(z).unwrap_or(2147483648)
 }
 
 // A kind or an entry as it is lent, and -1 for one from 2147483648 up.
+#[tactic(auto, unfolding(crate::specs::Lent::lent_number))]
 fn number_of(k: u32) -> i32
     ensures { result ≡ lent_number k }
 {
-    if k < 2147483648 { k as i32 } else { -1 }
+    i32::try_from(k).unwrap_or(-1)
 }
 
 // The record that four lent numbers are.
-pub fn record_in(fields: [i32; 4]) -> Record
-    ensures { result ≡ record_in fields }
-{
-    Record {
-        kind: unsigned_of(fields[0]),
-        entry: unsigned_of(fields[1]),
-        off0: fields[2],
-        off1: fields[3],
+impl From<[i32; 4]> for Record {
+    ghost from_gives = { λ fields r. r ≡ record_in fields };
+
+    fn from(fields: [i32; 4]) -> Record {
+        let [kind, entry, off0, off1] = fields;
+        Record {
+            kind: unsigned_of(kind),
+            entry: unsigned_of(entry),
+            off0,
+            off1,
+        }
     }
 }
 
 // The four numbers that a record is lent as.
-pub fn fields_of(r: Record) -> [i32; 4]
-    ensures { result ≡ fields_of r }
-{
-    let off0 = r.off0;
-    let off1 = r.off1;
-    [number_of(r.kind), number_of(r.entry), off0, off1]
+impl From<Record> for [i32; 4] {
+    ghost from_gives = { λ r fields. fields ≡ fields_of r };
+
+    fn from(r: Record) -> [i32; 4] {
+        [number_of(r.kind), number_of(r.entry), r.off0, r.off1]
+    }
 }

@@ -1,10 +1,11 @@
 // A record (document 01, "Choice", "Sheet" and "House file"): what its kind and entry mean, its checks, and records as they are lent.
 #![tactic(auto)]
 
+mod kind;
 mod lent;
 mod meaning;
 
-pub use lent::{fields_of, record_in};
+pub use kind::Kind;
 pub use meaning::{Meaning, meaning_of};
 
 // A record: its kind and entry, which name the pattern, and the offsets of partitions 0 and 1.

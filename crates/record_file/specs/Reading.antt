@@ -10,6 +10,7 @@ use Rattle.sheet.specs.State.{state_of, sides_ok}
 use Rattle.record.specs.Meaning.{record_refusal}
 use Rattle.record_text.specs.declared.fields.SizeFields.{SizeFields}
 use Rattle.record.specs.declared.Record.{Record}
+use Rattle.record_file.specs.declared.lists.ReadInput.{ReadInput}
 use Rattle.record_text.specs.Parsed.{exactly}
 use Rattle.record_text.specs.Line.{size_title, depth_title, record_title, size_line, value_line, record_line}
 use Rattle.record_text.specs.Lines.{Lined, read, judged, line, lines_then, no_meaning, many_lines, ended}
@@ -40,6 +41,10 @@ aids_of words4 count4 words8 count8 words16 count16 texture =
       count = λ n. for_size n count4 count8 count16;
       texture = texture;
     }
+
+-- the same from what a call is lent
+abbrev pub aids_in : ReadInput → Aids
+aids_in I = aids_of I.list4.words.now I.list4.count I.list8.words.now I.list8.count I.list16.words.now I.list16.count I.texture.now
 
 -- every list's count is one that its patterns and 9,999 allow
 abbrev pub lists_ok : Aids → Bool

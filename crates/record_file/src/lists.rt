@@ -1,29 +1,30 @@
-// The lists that a file is read with, one for each size.
+// What a file is read with.
 ghost use Rattle.std.specs.Prelude.{◌≡◌};
 ghost use Rattle.pattern.specs.Size.{for_size};
 
-// The list for blocks of size n.
-pub fn list_for<'a>(n: usize, list4: &'a [u64], list8: &'a [u64], list16: &'a [u64]) -> &'a [u64]
-    ensures { result.now ≡ for_size n list4.now list8.now list16.now }
-{
-    if n == 4 {
-        return list4;
-    }
-    if n == 8 {
-        return list8;
-    }
-    list16
+use pattern::PatternList;
+
+// What a file is read with: a list for each size, and texture; an empty texture is none.
+#[derive(Clone, Copy)]
+pub struct ReadInput<'a> {
+    pub list4: PatternList<'a>,
+    pub list8: PatternList<'a>,
+    pub list16: PatternList<'a>,
+    pub texture: &'a [u8],
 }
 
-// Its count.
-pub fn count_for(n: usize, count4: usize, count8: usize, count16: usize) -> usize
-    ensures { result ≡ for_size n count4 count8 count16 }
-{
-    if n == 4 {
-        return count4;
+impl<'a> ReadInput<'a> {
+    // The list for blocks of size n.
+    pub fn list_for(self, n: usize) -> PatternList<'a>
+        ensures words { let I = self.entry in
+            result.words.now ≡ for_size n I.list4.words.now I.list8.words.now I.list16.words.now }
+        ensures count { let I = self.entry in
+            result.count ≡ for_size n I.list4.count I.list8.count I.list16.count }
+    {
+        match n {
+            4 => self.list4,
+            8 => self.list8,
+            _ => self.list16,
+        }
     }
-    if n == 8 {
-        return count8;
-    }
-    count16
 }

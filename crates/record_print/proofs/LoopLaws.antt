@@ -7,7 +7,7 @@ use native.Mathlib.Numerals.{add-one}
 use native.Mathlib.Omega.{arith}
 use lib.ListN.{length}
 use Rattle.arith.specs.Lists.{list_of}
-use Rattle.record_text.specs.declared.cursor.Cursor.{Cursor}
+use Rattle.record_print.specs.declared.cursor.Cursor.{Cursor}
 use Rattle.record_text.specs.Lines.{texts}
 use Rattle.record_text.proofs.LinesLaws.{texts-more, texts-length}
 use Rattle.record_print.specs.Put.{Put, Written, printed_if}

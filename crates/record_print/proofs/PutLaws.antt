@@ -1,27 +1,23 @@
 -- Writing a text that is given whole, and a line that is made apart first.
-use Prim.Native.Nat.{ℕ, suc, ◌+◌, ◌≤◌, ◌<◌}
+use Prim.Native.Nat.{ℕ, ◌+◌, ◌≤◌, ◌<◌}
 use mathlib.Core.Path.{◌≡◌, refl, sym, ◌∙◌, ap, subst}
-use mathlib.Core.Bool.{Bool, true, false, cond, ◌&&◌}
+use mathlib.Core.Bool.{Bool, true, false, cond}
 use mathlib.Core.List.{List, [], ◌∷◌, ◌++◌}
 use native.Mathlib.Omega.{arith}
-use native.Mathlib.Numerals.{add-one}
-use lib.Dec.{leb, eqb}
+use lib.Dec.{leb}
 use lib.IntN.{ℤ, pos, negsuc, nat_abs}
-use lib.ListN.{length, get_or, take, drop, set, length-append, drop_of_length-le}
-use lib.Seq.{sets, sets-eq, take_at, length-take-le, drop-cons}
+use lib.ListN.{length, take, drop}
+use lib.Seq.{sets-eq, take_at, length-take-le}
 use borrow.Author.Tests.{le-leb, lt-ltb}
-use Rattle.record_text.specs.declared.cursor.Cursor.{Cursor}
+use Rattle.record_print.specs.declared.cursor.Cursor.{Cursor}
 use Rattle.record_text.specs.declared.fields.SizeFields.{SizeFields}
 use Rattle.record.specs.declared.Record.{Record}
 use Rattle.record_text.specs.Numeral.{numeral_end}
 use Rattle.record_text.specs.Codec.{FieldPrintable}
-use Rattle.record_text.specs.Field.{signed_text}
-use Rattle.record_text.specs.Line.{end_byte, line_text, number_at, size_form, size_numbers, record_form, record_numbers}
+use Rattle.record_text.specs.Line.{size_form, size_numbers, record_form, record_numbers}
 use Rattle.record_text.specs.Printable.{LinePrintable, SizePrintable, RecordPrintable}
-use Rattle.record_text.proofs.LineSteps.{end-at}
-use Rattle.record_text.proofs.ReadSteps.{at_place}
-use Rattle.record_print.specs.Put.{Put, Written, Made, printed_if, signed_printable, line_printable, size_printable, record_printable}
-use Rattle.record_print.proofs.WriteSteps.{written-length, sets-append}
+use Rattle.record_print.specs.Put.{Put, Written, Made, printed_if, line_printable, size_printable, record_printable}
+use Rattle.record_print.proofs.WriteSteps.{written-length}
 
 -- no room: nothing is written
 pub put-no-room : (old text : List ℕ) (from : Cursor) → leb (from.at + length text) (length old) ≡ false → Put old old from text from
@@ -76,15 +72,6 @@ put-unprintable b old text from e =
     go true = omega arith
     go false = refl
 
--- ---- a text copied byte by byte: i of them are
-
-pub copy_step :
-    (l text : List ℕ) (at i v : ℕ) → i < length text → v ≡ get_or text i 0
-    → sets (set l (at + i) v) (at + (i + 1)) (drop (i + 1) text) ≡ sets l (at + i) (drop i text)
-copy_step l text at i v h e =
-    let z : at + (i + 1) ≡ suc (at + i) = omega arith in
-    rw (e, z, at_place text i h)
-
 -- ---- a text made from the start of bytes of its own, and then put
 
 pub written-made : {old new text : List ℕ} {len : ℕ} → length text ≤ length old → Written old new 0 text len → Made new text len
@@ -100,14 +87,6 @@ pub made-put :
     {bytes text old new : List ℕ} {len : ℕ} {from next : Cursor} → Made bytes text len → Put old new from (take len bytes) next → Put old new from text next
 made-put {bytes} {text} {old} {new} {len} {from} {next} m w = subst (λ (x : List ℕ). Put old new from x next) m.is w
 
--- no text is made of a line with a number that has no numeral
-pub none_made : (line text : List ℕ) (b : Bool) → b ≡ false → Made line (printed_if b text) 0
-none_made line text b e = rw e (record { inside = omega arith; is = refl })
-
--- and all of one whose numbers have
-pub all_made : {bytes text : List ℕ} {len : ℕ} (b : Bool) → b ≡ true → Made bytes text len → Made bytes (printed_if b text) len
-all_made b e m = rw e m
-
 -- ---- which lines can be printed
 
 -- a line whose form is right can
@@ -122,10 +101,6 @@ line-printed (m ∷ form) (z ∷ l) h = rw (lt-ltb (nat_abs z) numeral_end (smal
     small false (pos n) h = h
     small false (negsuc n) h = absurd h
 
--- whether those from place k on have one, by the number there
-pub printable-from : (l : List ℤ) (k : ℕ) (b : Bool) → k < length l → b ≡ signed_printable (number_at l k) → line_printable (drop k l) ≡ b && line_printable (drop (k + 1) l)
-printable-from l k b h e = rw (drop-cons l k (pos 0) h, add-one k, e)
-
 pub size-printed : (h : SizeFields) → SizePrintable h → size_printable h ≡ true
 unfolding size_printable
 size-printed h p = line-printed size_form (size_numbers h) p
@@ -133,50 +108,3 @@ size-printed h p = line-printed size_form (size_numbers h) p
 pub record-printed : (r : Record) → RecordPrintable r → record_printable r ≡ true
 unfolding record_printable
 record-printed r p = line-printed record_form (record_numbers r) p
-
--- the same numbers, named otherwise
-pub line_as :
-    (l m : List ℤ) {old new : List ℕ} {from next : Cursor} → Put old new from (printed_if (line_printable l) (line_text l)) next → l ≡ m
-    → Put old new from (printed_if (line_printable m) (line_text m)) next
-line_as l m {old} {new} {from} {next} w e = subst (λ (x : List ℤ). Put old new from (printed_if (line_printable x) (line_text x)) next) e w
-
--- ---- a line written number by number: those from place k on are left
-
--- the numbers that are left, written to the bytes as they are, give what the whole line gives
-pub record Left (numbers : List ℤ) (old : List ℕ) (k : ℕ) (line : List ℕ) (p : ℕ) : Type 0 where
-  pub lent : sets line p (line_text (drop k numbers)) ≡ sets old 0 (line_text numbers)
-  pub place : p + length (line_text (drop k numbers)) ≡ length (line_text numbers)
-  pub room : length line ≡ length old
-
-module _ (numbers : List ℤ) (old : List ℕ) (k : ℕ) (line : List ℕ) (p : ℕ) (left : Left numbers old k line p) where
-  module _ (h : k < length numbers) where
-    abbrev here : List ℕ
-    here = signed_text (end_byte (eqb (k + 1) (length numbers))) (number_at numbers k)
-
-    here-left : line_text (drop k numbers) ≡ here ++ line_text (drop (suc k) numbers)
-    here-left = rw (drop-cons numbers k (pos 0) h, end-at numbers k h)
-
-    -- there is room for the next one, and then it is written
-    pub left-room : length (line_text numbers) ≤ length old → p + length here ≤ length line
-    left-room r = omega (arith, left.place, left.room, ap length here-left, length-append here (line_text (drop (suc k) numbers)))
-
-    pub left-more : {line' : List ℕ} {q : ℕ} → Written line line' p here q → Left numbers old (k + 1) line' q
-    left-more {line'} {q} w =
-        rw (add-one k)
-        (record {
-          lent = rw (w.lent, w.place, ← sets-append here (line_text (drop (suc k) numbers)) line p, ← here-left) left.lent;
-          place = omega (arith, left.place, w.place, ap length here-left, length-append here (line_text (drop (suc k) numbers)));
-          room = written-length w ∙ left.room;
-        })
-
-  -- all are written
-  left-none : length numbers ≤ k → Written old line 0 (line_text numbers) p
-  left-none h =
-      let e = ap line_text (drop_of_length-le numbers h) in
-      record { lent = ap (sets line p) (sym e) ∙ left.lent; place = omega (arith, left.place, ap length e) }
-
-  pub line_made :
-      length numbers ≤ k → length (line_text numbers) ≤ length old → line_printable (drop k numbers) ≡ line_printable numbers
-      → Made line (printed_if (line_printable numbers) (line_text numbers)) p
-  line_made h r e =
-      all_made (line_printable numbers) (sym e ∙ ap line_printable (drop_of_length-le numbers h)) (written-made r (left-none h))

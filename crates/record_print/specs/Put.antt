@@ -1,7 +1,7 @@
 -- Writing a text at a place of lent bytes: all of it where there is room, else nothing.
 use Rattle.std.specs.Prelude.{ℕ, ◌+◌, ◌≤◌, ◌≡◌, Bool, true, cond, ◌&&◌, List, [], ◌∷◌, leb, ltb, ℤ, nat_abs, length, take}
 use Rattle.std.proofs.lemmas.List.Edits.{sets}
-use Rattle.record_text.specs.declared.cursor.Cursor.{Cursor}
+use Rattle.record_print.specs.declared.cursor.Cursor.{Cursor}
 use Rattle.record_text.specs.declared.fields.SizeFields.{SizeFields}
 use Rattle.record.specs.declared.Record.{Record}
 use Rattle.record_text.specs.Numeral.{numeral_end}

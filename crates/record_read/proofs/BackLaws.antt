@@ -1,50 +1,44 @@
 -- What `read` answers and leaves, from what its parts do.
-use Prim.Native.Nat.{ℕ, suc, ◌+◌, ◌*◌, ◌≤◌, ◌<◌}
-use mathlib.Core.Path.{◌≡◌, refl, sym, ◌∙◌, ap, subst}
-use mathlib.Core.Bool.{true, false}
-use mathlib.Core.List.{List, ◌++◌, map}
-use native.Mathlib.Nat.{mul-le-mul}
-use native.Mathlib.Omega.{arith}
-use lib.IntN.{ℤ}
-use lib.ListN.{length, length-set, get_or, set, take, drop, replicate, length-replicate, length-map, length-append, length-drop}
-use lib.Seq.{sets, sets-eq, length-sets, take_at, take-suc, drop-cons, set_at, append_snoc, length-take-le}
+use Rattle.std.proofs.Common.{ℕ, ◌+◌, ◌*◌, ◌≤◌, ◌≡◌, refl, sym, ◌∙◌, ap, subst, arith, true, false, List, [], ◌++◌, map, length, take, drop, replicate, Ok, Err}
+use Rattle.std.proofs.Common.{ℤ}
+use Rattle.std.proofs.Math.ListN.{length-replicate, length-map}
+use Rattle.std.proofs.Math.Nat.{mul-le-mul}
+use Rattle.std.proofs.Math.Seq.{sets, sets-eq, take_at, length-take-le}
 use Rattle.depth_table.specs.Table.{most_values}
-use Rattle.pattern.specs.Answer.{count_ok}
-use Rattle.pattern.specs.Size.{each_size, for_size}
-use Rattle.pattern.specs.Words.{whole_patterns}
-use Rattle.pattern.proofs.WordLaws.{length-patterns}
+use Rattle.pattern.specs.Refusal.{number_of}
+use Rattle.pattern.specs.Size.{for_size}
+use Rattle.pattern.specs.Words.{patterns_of}
 use Rattle.record.specs.declared.Record.{Record}
 use Rattle.record.specs.Lent.{fields_of}
-use Rattle.sheet_grid.specs.Grid.{longest, most_samples, most_blocks}
+use Rattle.sheet_grid.specs.Grid.{longest, most_samples}
 use Rattle.sheet_grid.proofs.GridLaws.{blocks-by-area}
-use Rattle.sheet.specs.State.{blocks_of}
-use Rattle.record_text.specs.Lines.{Lined, refused_at, read}
-use Rattle.record_file.specs.Reading.{File, file_of, Aids, aids_of, front_lines, file_lines, lists_ok, read_lengths_ok, read_file}
-use Rattle.record_file.proofs.FileLaws.{size_small, file-wrote}
-use Rattle.record_file.proofs.LineBounds.{blocks-few}
-use Rattle.record_read.specs.declared.blocks.Reading.{Reading}
+use Rattle.sheet.specs.declared.PlaceInput.{PlaceInput}
+use Rattle.sheet.specs.declared.Sheet.{Sheet}
+use Rattle.sheet.specs.Place.{Material, Fits, placed_in_turn}
+use Rattle.sheet.specs.State.{state_of, blocks_of, finished}
+use Rattle.sheet.specs.Told.{material_in}
+use Rattle.record_text.specs.Lines.{Lined, refused_at, read, lines_then}
+use Rattle.record_text.proofs.LinesLaws.{refused-read, lines-parts}
+use Rattle.record_file.specs.Reading.{File, Aids, aids_in, front_lines, file_lines, lists_ok, read_lengths_ok, read_file}
+use Rattle.record_file.specs.declared.lists.ReadInput.{ReadInput}
+use Rattle.record_file.proofs.FileLaws.{size_small}
 use Rattle.record_read.specs.declared.front.Front.{Front}
-use Rattle.record_read.specs.declared.reading.FileBack.{FileBack}
-use Rattle.record_text.specs.declared.cursor.Cursor.{Cursor}
-use Rattle.record_read.specs.declared.loops.LinesRead.{LinesRead}
-use Rattle.record_read.specs.declared.loops.LinesRead.TheVariants as lines_read
-use Rattle.record_read.specs.Told.{PutIf, front_size}
-use Rattle.record_read.specs.Back.{material_for, in_turn, drawn_on, samples_back, file_back, Lent, lent_of, leaving, Leaves}
-use Rattle.record_read.specs.Step.{one_list, Begun, FrontRead, Counted, HasRoom, begun_at, table_of, area_of, block_lines, with_front, sheet_lines, back_by}
-use Rattle.record_read.specs.Step.{Left, placed_all, ReadsAll}
-use Rattle.record_read.proofs.FrontLaws.{only-refused, only-read}
+use Rattle.record_read.specs.declared.lines.LineRefusal.{LineRefusal}
+use Rattle.record_read.specs.Back.{refused_back, material_for, in_turn, drawn_on, samples_back, Lent, lent_of, Leaves}
+use Rattle.record_read.specs.Step.{one_list, Begun, FrontRead, FrontSound, Counted, HasRoom, begun_at, front_size, table_of, area_of, block_lines, sheet_lines, placed_all, Left, ReadsAll}
 use Rattle.record_read.proofs.EmptyLaws.{empty-same}
 use Rattle.record_read.proofs.RestLaws.{size-placeable}
 
--- ---- the lengths
+pub table-first : (t : List ℕ) → length t ≤ most_values → take (length t) (sets (replicate most_values 0) 0 t) ≡ t
+table-first t h =
+    ap (take (length t)) (sets-eq t (replicate most_values 0) 0 (omega (arith, length-replicate {A = ℕ} most_values 0)))
+    ∙ take_at t (drop (0 + length t) (replicate most_values 0)) (length t) refl
 
--- the counts are set against the whole patterns of the lent words
-pub lists-lent :
-    (words4 words8 words16 : List ℕ) (count4 count8 count16 : ℕ) (texture : List ℕ)
-    → each_size (λ n. count_ok (whole_patterns n (for_size n (length words4) (length words8) (length words16))) (for_size n count4 count8 count16))
-    ≡ lists_ok (aids_of words4 count4 words8 count8 words16 count16 texture)
-lists-lent words4 words8 words16 count4 count8 count16 texture =
-    rw (length-patterns 4 words4, length-patterns 8 words8, length-patterns 16 words16)
+-- a refusal: the answer has its number and line, and nothing is altered
+pub all-refused : (A : Aids) (before : Lent) {x : Lined File} {n k : ℕ} → refused_at n k ≡ x → Leaves A x before (refused_back n k) before
+all-refused A before e = rw (← e) (record { answered = refl; kept = refl; drawn = refl })
+
+-- ---- the lengths, and the lines before the records
 
 module _ (A : Aids) (samples records : ℕ) (s : List ℕ) where
   pub read_short : read_lengths_ok samples records (lists_ok A) ≡ false → read_file A samples records s ≡ refused_at 2 0
@@ -55,189 +49,131 @@ module _ (A : Aids) (samples records : ℕ) (s : List ℕ) where
   unfolding read_file
   read-passed e = rw e
 
--- ---- a refusal: the answer has its number and line, and nothing is altered
-
-pub all-refused :
-    (A : Aids) (before : Lent) {x : Lined File} {n k : ℕ} {r : FileBack} → x ≡ refused_at n k → r ≡ file_back (refused_at n k)
-    → Leaves A x before r before
-all-refused A before e q = rw e (record { answered = q; kept = refl; drawn = refl })
-
--- where a line before the records is refused, so is the file
-pub file-no : (A : Aids) (s : List ℕ) {n k : ℕ} → front_lines (length A.texture) s ≡ refused_at n k → file_lines A s ≡ refused_at n k
+pub front-refused : (A : Aids) (s : List ℕ) {n k : ℕ} → refused_at n k ≡ front_lines (length A.texture) s → refused_at n k ≡ file_lines A s
 unfolding file_lines
-file-no A s e = rw e
+front-refused A s e = rw (← e) refl
 
--- ---- copying
+-- the file, once the lines before its records are read
+pub file-is : (A : Aids) (s : List ℕ) (f : Front) → FrontRead (length A.texture) s f → file_lines A s ≡ sheet_lines A f
+unfolding file_lines
+file-is A s f r = rw (← r.is, r.sound.count) refl
 
-module _ {A : Type 0} (from to : List A) (m : ℕ) where
-  -- i values are copied to l, as the loop has it
-  abbrev pub Copying : List A → ℕ → Type 0
-  Copying l i = (l ≡ take i from ++ drop i to) × (i ≤ m) × (length l ≡ length to)
+-- ---- the records
 
-  pub copy_more :
-      (d : A) (i : ℕ) {l : List A} {v : A} → Copying l i → i < m → m ≤ length to → m ≤ length from → v ≡ get_or from i d
-      → Copying (set l i v) (i + 1)
-  copy_more d i {l} {v} c h k j q =
-      let n : suc i ≡ i + 1 = omega arith in
-      let o : i < length to = omega arith in
-      let p : i < length from = omega arith in
-      let set-in = set_at (take i from) (get_or to i d) (drop (suc i) to) (get_or from i d) i (length-take-le i from (omega arith)) in (
-        ap (set l i) q
-            ∙ ap (λ (x : List A). set x i (get_or from i d)) c.0
-            ∙ rw (drop-cons to i d o, set-in)
-            (sym (append_snoc (take i from) (get_or from i d) (drop (suc i) to))
-            ∙ ap (λ (x : List A). x ++ drop (suc i) to) (sym (take-suc from i d p))
-            ∙ ap (λ (j : ℕ). take j from ++ drop j to) n),
-        omega arith,
-        length-set l i v ∙ c.2,
-      )
+-- the same refusal, of lines whose values are put in another way
+same-lines : {A B : Type 0} (f : A → B) (x : Lined A) {n k : ℕ} → refused_at n k ≡ lines_then x (λ a s. read (f a) s) → refused_at n k ≡ x
+same-lines {A} f (refused_at i j) e = ap back e
+  where
+    back : {B : Type 0} → Lined B → Lined A
+    back (refused_at n k) = refused_at n k
+    back (read b s) = refused_at 0 0
+same-lines f (read a s) e = refused-read e
 
-  pub copy-end : (i : ℕ) {l : List A} → Copying l i → m ≤ i → l ≡ take m from ++ drop m to
-  copy-end i c h = let e : i ≡ m = omega (arith, c.1) in c.0 ∙ ap (λ (j : ℕ). take j from ++ drop j to) e
+same-value : {A : Type 0} {a b : A} {s t : List ℕ} → read a s ≡ read b t → a ≡ b
+same-value e = cc
 
--- ---- after the lines before the records
+-- records are placed with what the file is read with, for its size, and the file's table
+pub record Lends (A : Aids) (f : Front) (I : PlaceInput) : Type 0 where
+  pub list : patterns_of f.sheet.n I.list.words.now ≡ A.list f.sheet.n
+  pub count : I.list.count ≡ A.count f.sheet.n
+  pub table : I.table.now ≡ table_of f
+  pub texture : I.texture.now ≡ A.texture
 
-pub table-first : (t : List ℕ) → length t ≤ most_values → take (length t) (sets (replicate most_values 0) 0 t) ≡ t
-table-first t h =
-    ap (take (length t)) (sets-eq t (replicate most_values 0) 0 (omega (arith, length-replicate {A = ℕ} most_values 0)))
-    ∙ take_at t (drop (0 + length t) (replicate most_values 0)) (length t) refl
+pub lends_in :
+    (R : ReadInput) (f : Front) (I : PlaceInput) → I.list.words.now ≡ for_size f.sheet.n R.list4.words.now R.list8.words.now R.list16.words.now
+    → I.list.count ≡ for_size f.sheet.n R.list4.count R.list8.count R.list16.count → I.table.now ≡ table_of f → I.texture.now ≡ R.texture.now
+    → Lends (aids_in R) f I
+lends_in R f I w c t x = record { list = ap (patterns_of f.sheet.n) w; count = c; table = t; texture = x }
 
--- the answer where a line is refused
-pub back-refused :
-    (f : Front) {t : LinesRead} {n k : ℕ} {r : FileBack} → t ≡ lines_read.Refused n k → r ≡ file_back (refused_at n k) → r ≡ back_by f t
-back-refused f e q = rw e q
-
-module _ (A : Aids) (s : List ℕ) (f : Front) (front : FrontRead (length A.texture) s f) where
-  pub values-few : f.values ≤ most_values
-  values-few = (size_small (length A.texture) (front_size f) front.size).values
-
-  pub sides-few : (f.width ≤ longest) × (f.height ≤ longest)
-  sides-few = let z = size_small (length A.texture) (front_size f) front.size in (z.width, z.height)
+module _ (A : Aids) (f : Front) (sound : FrontSound (length A.texture) f) where
+  values-few : f.values ≤ most_values
+  values-few = (size_small (length A.texture) (front_size f) sound.size).values
 
   pub area-few : area_of f ≤ most_samples
-  area-few = mul-le-mul {n₁ = f.width} {m₁ = f.height} {n₂ = longest} {m₂ = longest} sides-few.0 sides-few.1
-
-  pub blocks-fit : blocks_of (begun_at f).sheet ≤ most_blocks
-  blocks-fit = blocks-few (length A.texture) (front_size f) front.size
-
-  pub values-room : f.values ≤ length f.table
-  values-room =
-      let array : List ℕ = replicate most_values 0 in
-      omega (arith, values-few, ap length front.held, length-sets array 0 front.table, length-replicate {A = ℕ} most_values 0)
-
-  table_is : table_of f ≡ front.table
-  table_is = rw (← front.count, front.held) (table-first front.table (omega (arith, values-few, front.count)))
-
-  pub begun : (records : ℕ) → Counted A f.n → blocks_of (begun_at f).sheet ≤ records → Begun A (table_of f) (begun_at f) (area_of f) records
-  begun records counted room =
-      record {
-        empty = refl;
-        placeable = rw table_is (size-placeable A (front_size f) front.table front.size front.count counted);
-        room = room;
-        low = omega (arith, values-few);
-      }
-
-  -- the file, once those lines are read
-  pub file-is : file_lines A s ≡ sheet_lines A f s
-  unfolding file_lines
-  file-is = rw (front.is, table_is, front.count)
-
-  -- as much is copied as the answered sheet has
-  pub back-few :
-      (t : LinesRead) {r : FileBack} → r ≡ back_by f t → (r.sheet.width * r.sheet.height ≤ area_of f) × (r.sheet.placed ≤ blocks_of (begun_at f).sheet)
-  back-few (lines_read.Refused n k) e = rw e (omega arith, omega arith)
-  back-few (lines_read.Done c) e = rw e (omega arith, omega arith)
+  area-few =
+      let z = size_small (length A.texture) (front_size f) sound.size in
+      mul-le-mul {n₁ = f.sheet.width} {m₁ = f.sheet.height} {n₂ = longest} {m₂ = longest} z.width z.height
 
   -- where a small sheet's samples have room, so have its blocks
   pub small-room : {samples records : ℕ} → area_of f ≤ samples → samples ≤ records * 16 → HasRoom f samples records
   small-room h k =
-      let s = size_small (length A.texture) (front_size f) front.size in
-      record { samples_inside = h; records_in = omega (arith, blocks-by-area f.n f.width f.height s.low) }
+      let s = size_small (length A.texture) (front_size f) sound.size in
+      record { samples_inside = h; records_in = omega (arith, blocks-by-area f.sheet.n f.sheet.width f.sheet.height s.low) }
 
-  -- all is read, with what the local samples and records were, and what they are: it is copied to the lent slices
-  module _ (drawn₀ drawn : List ℕ) (kept₀ kept : List (List ℤ)) (before : Lent) (room : area_of f ≤ length drawn₀) where
-    abbrev first : Left
-    first = (take (area_of f) drawn₀, kept₀)
+  module _ (I : PlaceInput) (lends : Lends A f I) where
+    abbrev M : Material
+    M = material_in f.sheet.n I
 
-    abbrev placed : List Record → Left
-    placed l = placed_all (material_for A f.n (table_of f)) (begun_at f).sheet first (blocks_of (begun_at f).sheet) l
+    material_is : material_for A f.sheet.n (table_of f) ≡ M
+    material_is = rw (lends.list, lends.count, lends.table, lends.texture) refl
 
-    abbrev Copied : List ℕ → List (List ℤ) → FileBack → Type 0
-    Copied samples records b =
-        (samples ≡ take (b.sheet.width * b.sheet.height) drawn ++ drop (b.sheet.width * b.sheet.height) before.samples)
-        × (records ≡ take b.sheet.placed kept ++ drop b.sheet.placed before.records)
+    empty_is : state_of f.sheet.n f.sheet.width f.sheet.height 0 ≡ f.sheet
+    empty_is = ap (state_of f.sheet.n f.sheet.width f.sheet.height) (sym sound.empty)
 
-    module _ {samples : List ℕ} {records : List (List ℤ)} {r : FileBack} where
-      sheet-of :
-          (c : Cursor) (l : List Record) (u : List ℕ) → block_lines A (length (table_of f)) (begun_at f) s ≡ read l u
-          → ◌≡◌ {A = Left} (take (area_of f) drawn, kept) (placed l) → r ≡ back_by f (lines_read.Done c) → Copied samples records (back_by f (lines_read.Done c))
-          → Leaves A (sheet_lines A f s) before r (lent_of samples records)
+    pub begun : {samples records : ℕ} → Counted A f.sheet.n → samples ≡ area_of f → records ≡ blocks_of f.sheet → Begun I (begun_at f) samples records
+    begun counted s r =
+        record {
+          empty = sound.empty;
+          placeable = rw (s, ← material_is) (subst (λ (S : Sheet). Fits S (material_for A f.sheet.n (table_of f)) (area_of f)) empty_is
+              (size-placeable A (front_size f) (table_of f) sound.size sound.count counted));
+          room = sym r;
+          low = omega (arith, values-few);
+        }
+
+    -- the lines of the records, by what they are judged with
+    abbrev lines_by : List ℕ → ℕ → List ℕ → List ℕ → Lined (List Record)
+    lines_by list count texture table = block_lines (record { list = λ n. list; count = λ n. count; texture = texture }) (length table) (begun_at f)
+
+    lines_are : block_lines (one_list I.list.words.now I.list.count I.texture.now) (length I.table.now) (begun_at f) ≡ block_lines A (length (table_of f)) (begun_at f)
+    lines_are =
+        ap (λ (l : List ℕ). lines_by l I.list.count I.texture.now I.table.now) lends.list
+        ∙ ap (λ (k : ℕ). lines_by (A.list f.sheet.n) k I.texture.now I.table.now) lends.count
+        ∙ ap (λ (t : List ℕ). lines_by (A.list f.sheet.n) (A.count f.sheet.n) t I.table.now) lends.texture
+        ∙ ap (λ (t : List ℕ). lines_by (A.list f.sheet.n) (A.count f.sheet.n) A.texture t) lends.table
+
+    -- a line of a record is refused
+    pub rest-refused : {samples : List ℕ} {new : Left} {e : LineRefusal} → ReadsAll I (begun_at f) samples new (Err e) → refused_at (number_of e.refusal) e.line ≡ sheet_lines A f
+    rest-refused {samples} q =
+        let x = block_lines A (length (table_of f)) (begun_at f) in
+        rw (← same-lines (placed_all M f.sheet samples) x (rw lines_are at q.told)) refl
+
+    module _ (samples : List ℕ) {drawn : List ℕ} {kept : List (List ℤ)} {S : Sheet} (before : Lent) (long : length samples ≡ area_of f) (done : S ≡ finished f.sheet) where
+      rest-of :
+          (l : List Record) (u : List ℕ) → block_lines A (length (table_of f)) (begun_at f) ≡ read l u
+          → ◌≡◌ {A = Left} (drawn, kept) (placed_all M f.sheet samples l) → length kept ≡ blocks_of f.sheet
+          → Leaves A (sheet_lines A f) before (record { refusal = 0; line = 0; sheet = S; values = f.values; table = f.table })
+          (lent_of (drawn ++ drop (area_of f) before.samples) (kept ++ drop (blocks_of f.sheet) before.records))
       unfolding samples_back
-      sheet-of c l u is left e es =
-          let S = (begun_at f).sheet in
-          let M = material_for A f.n (table_of f) in
-          let F = file_of f.n f.width f.height (table_of f) l in
-          let z = size_small (length A.texture) (front_size f) front.size in
-          let whole : length l ≡ blocks_of S = (file-wrote A F s u (file-is ∙ rw is)).sound.whole in
-          let long : length (table_of f) ≡ f.values = ap length table_is ∙ front.count in
-          let array : sets (replicate most_values 0) 0 (table_of f) ≡ f.table =
-          ap (sets (replicate most_values 0) 0) table_is ∙ sym front.held in
-          let stored : take (blocks_of S) kept ≡ map fields_of l =
-          ap (λ (x : Left). take (blocks_of S) x.1) left ∙ take_at (map fields_of l) _ (blocks_of S) (length-map l fields_of ∙ whole) in
-          let painted : take (area_of f) drawn ≡ drawn_on S M (in_turn l) =
-          ap (λ (x : Left). x.0) left
-          ∙ empty-same f.n f.width f.height z.size z.sides M (in_turn l) (take (area_of f) drawn₀) (length-take-le (area_of f) drawn₀ room) in
+      rest-of l u is left whole =
+          let stored : kept ≡ map fields_of l = ap (λ (y : Left). y.1) left in
+          let number : length l ≡ blocks_of f.sheet = sym (length-map l fields_of) ∙ ap length (sym stored) ∙ whole in
+          let z = size_small (length A.texture) (front_size f) sound.size in
+          let E = state_of f.sheet.n f.sheet.width f.sheet.height 0 in
+          let painted : drawn ≡ drawn_on E M (in_turn l) =
+          ap (λ (y : Left). y.0) left
+          ∙ subst (λ (T : Sheet). placed_in_turn T M (in_turn l) samples (blocks_of f.sheet) ≡ drawn_on E M (in_turn l)) empty_is
+          (empty-same f.sheet.n f.sheet.width f.sheet.height z.size z.sides M (in_turn l) samples long) in
           rw is
           (record {
-            answered = e ∙ rw (long, array);
-            kept = es.1 ∙ rw (stored, whole);
-            drawn = es.0 ∙ ap (λ (x : List ℕ). x ++ drop (area_of f) before.samples) painted;
+            answered = rw (done, sound.count, ← sound.held) refl;
+            kept = rw (stored, number) refl;
+            drawn = ap (λ (y : List ℕ). y ++ drop (area_of f) before.samples) (painted ∙ ap (λ (m : Material). drawn_on E m (in_turn l)) (sym material_is));
           })
 
-      pub sheet-left :
-          (t : LinesRead) → ReadsAll A (table_of f) (begun_at f) s first (take (area_of f) drawn, kept) t → r ≡ back_by f t → Copied samples records r
-          → Leaves A (sheet_lines A f s) before r (lent_of samples records)
-      sheet-left (lines_read.Refused n k) q e es =
-          let h = subst (Copied samples records) e es in
-          rw (h.0, h.1) (all-refused A before (rw (only-refused (block_lines A (length (table_of f)) (begun_at f) s) q.told)) e)
-      sheet-left (lines_read.Done c) q e es =
-          let o = only-read (block_lines A (length (table_of f)) (begun_at f) s) (drop c.at s) q.told in
-          sheet-of c o.value (drop c.at s) o.is
-          (subst (λ (x : Lined (List Record)). PutIf placed x (take (area_of f) drawn, kept)) o.is q.left) e (subst (Copied samples records) e es)
+    -- all is read, and copied to the lent slices
+    pub rest-read :
+        {samples drawn : List ℕ} {kept : List (List ℤ)} {S : Sheet} (more : List ℕ) (more' : List (List ℤ)) (before : Lent) → ReadsAll I (begun_at f) samples (drawn, kept) (Ok S)
+        → length samples ≡ area_of f → length drawn ≡ length samples → length kept ≡ blocks_of f.sheet
+        → {area blocks : ℕ} {to : List ℕ} {to' : List (List ℤ)} → area ≡ area_of f → blocks ≡ blocks_of f.sheet
+        → to ≡ take area (drawn ++ more) → to' ≡ take blocks (kept ++ more')
+        → Leaves A (sheet_lines A f) before (record { refusal = 0; line = 0; sheet = S; values = f.values; table = f.table })
+        (lent_of (to ++ drop area before.samples) (to' ++ drop blocks before.records))
+    rest-read {samples} {drawn} {kept} more more' before q long same whole e m d k =
+        let x = block_lines A (length (table_of f)) (begun_at f) in
+        let p = lines-parts (λ l s. read (placed_all M f.sheet samples l) s) x (drawn, kept) [] (sym (rw lines_are at q.told)) in
+        rw (d, k, e, m, take_at drawn more (area_of f) (same ∙ long), take_at kept more' (blocks_of f.sheet) whole)
+        (rest-of samples before long q.done p.value p.rest p.first (sym (same-value p.then)) whole)
 
--- the first k samples of a slice were lent on, and the rest follows them
-pub rest-as :
-    (A : Aids) (table : List ℕ) (r : Reading) (s old : List ℕ) (k : ℕ) {new : List ℕ} {kept₀ kept : List (List ℤ)} {t : LinesRead}
-    → k ≤ length old → length (new ++ drop k old) ≡ length old → ReadsAll A table r s (take k old, kept₀) (new, kept) t
-    → ReadsAll A table r s (take k old, kept₀) (take k (new ++ drop k old), kept) t
-rest-as A table r s old k {new} h e q =
-    let l : length new ≡ k = omega (arith, length-append new (drop k old), length-drop k old) in
-    rw (take_at new (drop k old) k l) q
-
--- ---- the list for the size in the file stands for all three
-
-lent-as :
-    (A B : Aids) (f : Front) (old : List ℕ) {new : List ℕ} → material_for A f.n (table_of f) ≡ material_for B f.n (table_of f)
-    → (x : Lined (List Record)) → new ≡ leaving (with_front f x) (λ F. samples_back B F old) old
-    → new ≡ leaving (with_front f x) (λ F. samples_back A F old) old
-unfolding samples_back
-lent-as A B f old e (refused_at n k) h = h
-lent-as A B f old e (read l v) h = rw e h
-
-pub read_as :
-    (words4 words8 words16 : List ℕ) (count4 count8 count16 : ℕ) (texture s : List ℕ) (f : Front)
-    {words : List ℕ} {count : ℕ} {before after : Lent} {r : FileBack} {x : Lined File}
-    → let A = aids_of words4 count4 words8 count8 words16 count16 texture in
-    let B = one_list words count texture in
-    words ≡ for_size f.n words4 words8 words16 → count ≡ for_size f.n count4 count8 count16 → x ≡ sheet_lines A f s
-    → Leaves B (sheet_lines B f s) before r after → Leaves A x before r after
-read_as words4 words8 words16 count4 count8 count16 texture s f {before = before} e g q h =
-    let A = aids_of words4 count4 words8 count8 words16 count16 texture in
-    let B = one_list (for_size f.n words4 words8 words16) (for_size f.n count4 count8 count16) texture in
-    let l = rw (e, g) at h in
-    rw q
-    (record {
-      answered = l.answered;
-      kept = l.kept;
-      drawn = lent-as A B f before.samples refl (block_lines B (length (table_of f)) (begun_at f) s) l.drawn;
-    })
+-- the first k places of an array of n
+pub places-in : {A : Type 0} (d : A) (k m n : ℕ) → k ≡ m → m ≤ n → length (take k (replicate n d)) ≡ m
+places-in {A} d k m n e h = length-take-le k (replicate n d) (omega (arith, e, h, length-replicate {A = A} n d)) ∙ e

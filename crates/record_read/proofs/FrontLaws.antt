@@ -1,100 +1,70 @@
 -- The lines before the records as the code reads them.
-use Prim.Native.Nat.{ℕ, ◌+◌, ◌<◌}
-use mathlib.Core.Path.{◌≡◌, refl, sym, ◌∙◌, ap, subst}
-use mathlib.Core.List.{List}
-use native.Mathlib.Omega.{arith}
-use lib.ListN.{drop, replicate}
-use lib.Seq.{sets}
+use Rattle.std.proofs.Common.{ℕ, ◌+◌, ◌≤◌, ◌≡◌, refl, sym, ◌∙◌, ap, arith, List, ◌++◌, length, take, drop, replicate, zero-add}
+use Rattle.std.proofs.Math.ListN.{length-replicate}
+use Rattle.std.proofs.Math.Seq.{length-take-le, sets-eq, take_at}
+use Rattle.std.specs.Borrow.{Bor}
 use Rattle.depth_table.specs.Table.{most_values}
+use Rattle.sheet.specs.State.{state_of}
 use Rattle.record_text.specs.declared.fields.SizeFields.{SizeFields}
 use Rattle.record_text.specs.Parsed.{Parsed, bad_form, found, exactly}
 use Rattle.record_text.specs.Line.{record_title}
-use Rattle.record_text.specs.Lines.{Lined, refused_at, read, line, lines_then, no_meaning}
+use Rattle.record_text.specs.Lines.{refused_at, read, line, no_meaning}
 use Rattle.record_text.proofs.LinesLaws.{refused-read}
-use Rattle.record_file.specs.Reading.{head_lines, value_lines, table_lines, front_lines}
-use Rattle.record_read.specs.declared.front.Front.{Front}
-use Rattle.record_read.specs.Told.{only, PutIf, title_lines, front_refused, front_of, FrontBy, FrontIs, front_size}
+use Rattle.record_file.specs.Reading.{head_lines, value_lines, front_lines}
+use Rattle.record_file.proofs.FileLaws.{size_small, front-parts}
+use Rattle.record_file.proofs.LineBounds.{head-sound}
 use Rattle.record_read.specs.Step.{FrontRead}
-use Rattle.record_file.proofs.FileLaws.{front-parts}
-use Rattle.record_file.proofs.LineBounds.{Below, line_end, front_below}
 
--- ---- what lines that were read, without their values, were
+-- the size line's count is at most that of a table
+pub head_few : (texture : ℕ) (s : List ℕ) (z : SizeFields) (t : List ℕ) → read z t ≡ head_lines texture s → z.values ≤ most_values
+head_few texture s z t e = (size_small texture z (head-sound texture s z t (sym e))).values
 
-pub only-refused : {A : Type 0} (x : Lined A) {n k : ℕ} → refused_at n k ≡ only x → x ≡ refused_at n k
-only-refused {A} (refused_at i j) {n} {k} e = ap back (sym e)
-  where
-    back : Lined (Unit {0}) → Lined A
-    back (refused_at n k) = refused_at n k
-    back (read u s) = refused_at 0 0
-only-refused (read a s) e = refused-read e
+-- the places of an array that hold the values
+abbrev pub places : SizeFields → List ℕ
+places z = take z.values (replicate most_values 0)
 
-pub record OnlyRead {A : Type 0} (x : Lined A) (u : List ℕ) : Type 0 where
-  pub value : A
-  pub is : x ≡ read value u
+pub places_for : (texture : ℕ) (s : List ℕ) (z : SizeFields) (t : List ℕ) → read z t ≡ head_lines texture s → length (places z) ≡ z.values
+places_for texture s z t e =
+    length-take-le z.values (replicate most_values 0) (omega (arith, head_few texture s z t e, length-replicate {A = ℕ} most_values 0))
 
-pub only-read : {A : Type 0} (x : Lined A) (u : List ℕ) → read tt u ≡ only x → OnlyRead x u
-only-read (refused_at n k) u e = refused-read (sym e)
-only-read (read a s) u e = let p : u ≡ s = cc in record { value = a; is = ap (read a) (sym p) }
+-- the title after the values
+title-bad : {A : Type 0} (j : ℕ) (a : A) {n k : ℕ} (p : Parsed (Unit {0})) → refused_at n k ≡ line j p no_meaning read → refused_at n k ≡ line j p no_meaning (λ _ s. read a s)
+title-bad j a bad_form e = cc
+title-bad j a (found _ t) e = refused-read e
 
--- ---- the table and the title after it
+title-read : {A : Type 0} (j : ℕ) (a : A) {t : List ℕ} (p : Parsed (Unit {0})) → read tt t ≡ line j p no_meaning read → read a t ≡ line j p no_meaning (λ _ s. read a s)
+title-read j a bad_form e = refused-read (sym e)
+title-read j a (found _ t) e = cc
 
--- the title, in its form or in another
-module _ (s : List ℕ) (z : SizeFields) (array u : List ℕ) where
-  pub title-read : (at : ℕ) → exactly record_title u ≡ found tt (drop at s) → FrontBy (λ t. t) s (title_lines z array u) (front_of z at array)
-  title-read at e = rw e (refl, refl)
+module _ (texture : ℕ) (s : List ℕ) (z : SizeFields) (u : List ℕ) (head : read z u ≡ head_lines texture s) where
+  -- a value's line is refused
+  pub values-refused : {n k m : ℕ} → m ≡ z.values → refused_at n k ≡ value_lines m 4 u → refused_at n k ≡ front_lines texture s
+  values-refused q e = rw (← head, ← q, ← e) refl
 
-  pub title-bad : {r : Front} → exactly record_title u ≡ bad_form → r ≡ front_refused 9 (4 + z.values) → FrontBy (λ t. t) s (title_lines z array u) r
-  title-bad e q = rw e q
+  module _ (table : List ℕ) (v : List ℕ) {m : ℕ} (q : m ≡ z.values) (values : read table v ≡ value_lines m 4 u) where
+    pub title-refused : {n k : ℕ} → refused_at n k ≡ line (4 + z.values) (exactly record_title v) no_meaning read → refused_at n k ≡ front_lines texture s
+    title-refused e = rw (← head, ← q, ← values, q) (title-bad (4 + z.values) (z, table) (exactly record_title v) e)
 
-module _ (s : List ℕ) (z : SizeFields) (u : List ℕ) {r : Front} where
-  pub table-refused : {n k : ℕ} → refused_at n k ≡ only (value_lines z.values 4 u) → r ≡ front_refused n k → FrontIs s (table_lines z u) r
-  table-refused e q = rw (only-refused (value_lines z.values 4 u) e) q
+    front_read : (t : List ℕ) → read tt t ≡ line (4 + z.values) (exactly record_title v) no_meaning read → read (z, table) t ≡ front_lines texture s
+    front_read t e = rw (← head, ← q, ← values, q) (title-read (4 + z.values) (z, table) (exactly record_title v) e)
 
-module _ (s : List ℕ) (z : SizeFields) (u : List ℕ) (r : Front) where
-  pub table-read :
-      (array : List ℕ) {v : List ℕ} → read tt v ≡ only (value_lines z.values 4 u) → PutIf (sets (replicate most_values 0) 0) (value_lines z.values 4 u) array
-      → FrontBy (λ t. t) s (title_lines z array v) r → FrontIs s (table_lines z u) r
-  table-read array {v} e h q = go (value_lines z.values 4 u) e h
-    where
-      title : (l : List ℕ) → array ≡ sets (replicate most_values 0) 0 l → (p : Parsed (Unit {0}))
-          → FrontBy (λ t. t) s (line (4 + z.values) p no_meaning (λ _ w. read (z, array) w)) r
-          → FrontIs s (line (4 + z.values) p no_meaning (λ _ w. read (z, l) w)) r
-      title l h bad_form q = q
-      title l h (found _ w) q = (q.0, q.1 ∙ ap (front_of z r.at) h)
-
-      go : (x : Lined (List ℕ)) → read tt v ≡ only x → PutIf (sets (replicate most_values 0) 0) x array
-          → FrontIs s (lines_then x (λ l w. line (4 + z.values) (exactly record_title w) no_meaning (λ _ y. read (z, l) y))) r
-      go (refused_at n k) e h = refused-read (sym e)
-      go (read l w) e h = let p : v ≡ w = cc in title l h (exactly record_title w) (rw p at q)
-
--- ---- the lines before the records
-
-module _ (texture : ℕ) (s : List ℕ) (r : Front) where
-  pub front-refused : {n k : ℕ} → refused_at n k ≡ head_lines texture s → r ≡ front_refused n k → FrontIs s (front_lines texture s) r
-  front-refused e q = rw (← e) q
-
-  pub front_read : {z : SizeFields} {u : List ℕ} → read z u ≡ head_lines texture s → FrontIs s (table_lines z u) r → FrontIs s (front_lines texture s) r
-  front_read e h = rw (← e) h
-
--- ---- what the answer says
-
-module _ (texture : ℕ) (s : List ℕ) (f : Front) (answered : FrontIs s (front_lines texture s) f) where
-  pub front-no : (f.refusal ≡ 0 → ⊥) → front_lines texture s ≡ refused_at f.refusal f.line
-  front-no some = go (front_lines texture s) answered
-    where
-      go : (x : Lined (SizeFields × List ℕ)) → FrontIs s x f → x ≡ refused_at f.refusal f.line
-      go (refused_at n k) h = rw h
-      go (read z u) h = absurd (some (ap (λ (y : Front). y.refusal) h.1))
-
-  pub front-is : f.refusal ≡ 0 → FrontRead texture s f
-  front-is none = go (front_lines texture s) refl answered
-    where
-      go : (x : Lined (SizeFields × List ℕ)) → front_lines texture s ≡ x → FrontIs s x f → FrontRead texture s f
-      go (refused_at n k) q h =
-          let b : (0 < n) × (k < line_end) = subst (λ (x : Lined (SizeFields × List ℕ)). Below line_end x) q (front_below texture s) in
-          absurd (omega (arith, b.0, ap (λ (y : Front). y.refusal) h, none))
-      go (read z u) q h =
-          let ez : front_size f ≡ z.0 = ap front_size h.1 in
-          let is : front_lines texture s ≡ read (front_size f, z.1) (drop f.at s) = q ∙ rw (ez, h.0) in
-          let p = front-parts texture s (front_size f) z.1 (drop f.at s) is in
-          record { table = z.1; is = is; size = p.size; count = p.count; held = ap (λ (y : Front). y.table) h.1 }
+    pub front-is :
+        (t : Bor (List ℕ)) → read tt t.now ≡ line (4 + z.values) (exactly record_title v) no_meaning read
+        → FrontRead texture s
+        (record { sheet = state_of z.n z.width z.height 0; values = z.values; table = table ++ drop z.values (replicate most_values 0); rest = t })
+    front-is t e =
+        let zeros : List ℕ = replicate most_values 0 in
+        let r = front_read t.now e in
+        let p = front-parts texture s z table t.now (sym r) in
+        let few = head_few texture s z u head in
+        let first : take z.values (table ++ drop z.values zeros) ≡ table = take_at table (drop z.values zeros) z.values p.count in
+        record {
+          is = rw first r;
+          sound =
+              record {
+                size = p.size;
+                empty = refl;
+                count = ap length first ∙ p.count;
+                held = rw first (sym (sets-eq table zeros 0 (omega (arith, p.count, few, length-replicate {A = ℕ} most_values 0)) ∙ rw (zero-add, p.count) refl));
+              };
+        }

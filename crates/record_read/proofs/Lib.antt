@@ -1,7 +1,8 @@
 -- Laws of reading.
 pub mod ReadLaws
-pub mod FrontLaws
 pub mod EmptyLaws
 pub mod RestLaws
+pub mod FrontLaws
 pub mod StepLaws
 pub mod BackLaws
+pub mod Uncited

@@ -1,84 +1,54 @@
--- The steps of reading as the code takes them: one line, and lines in a loop that stores what they say.
-use Prim.Native.Nat.{ℕ, zero, suc, ◌+◌, ◌*◌, ◌≤◌, ◌<◌}
-use mathlib.Core.Path.{◌≡◌, refl, sym, ◌∙◌, ap}
-use mathlib.Core.Bool.{Bool, ◌&&◌}
-use mathlib.Core.List.{List, [], ◌∷◌, ◌++◌}
-use native.Mathlib.Nat.{add-zero, add-suc, suc-add}
-use native.Mathlib.Omega.{arith}
-use borrow.Author.Tests.{ltb-true, lt-ltb, le-ltb, le-leb, lt-leb}
-use lib.Dec.{leb, ltb}
-use lib.ListN.{length, set, length-append}
-use lib.Seq.{sets}
+-- Reading lines in a loop that stores what they say.
+use Rattle.std.proofs.Common.{ℕ, zero, suc, ◌+◌, ◌*◌, ◌≤◌, ◌<◌, ◌≡◌, refl, sym, ◌∙◌, ap, arith, List, [], ◌∷◌, ◌++◌, length, length-append, get_or, drop, append-nil, Bool, ◌&&◌, leb}
+use borrow.Author.Tests.{lt-ltb, lt-leb}
+use Rattle.std.proofs.Math.ListN.{set, drop_of_length-le}
+use Rattle.std.proofs.Math.Seq.{drop-cons, set_at, append_snoc}
 use Rattle.arith.specs.Checks.{refusal}
-use Rattle.arith.proofs.Bools.{both_of}
 use Rattle.arith.proofs.CheckLaws.{holds, passes, kept}
 use Rattle.depth_table.specs.Table.{most_values}
-use Rattle.pattern.specs.Size.{size_ok}
-use Rattle.pattern.specs.Answer.{texture_ok}
+use Rattle.pattern.specs.Answer.{count_ok, texture_ok}
+use Rattle.pattern.specs.Refusal.{number_of}
+use Rattle.pattern.specs.Size.{size_ok, each_size, for_size}
+use Rattle.pattern.specs.Words.{whole_patterns, patterns_of}
+use Rattle.pattern.specs.declared.refusals.Refusal.{Refusal}
 use Rattle.sheet.specs.Checks.{new_refusal}
 use Rattle.sheet.specs.State.{state_of, sides_ok}
 use Rattle.record_text.specs.declared.fields.SizeFields.{SizeFields}
+use Rattle.pattern.proofs.WordLaws.{length-patterns}
 use Rattle.record_text.specs.Parsed.{Parsed, Parser, bad_form, found}
 use Rattle.record_text.specs.Lines.{Lined, refused_at, read, judged, line, many_lines}
+use Rattle.record_file.proofs.RefusalLaws.{number_some}
+use Rattle.record_file.specs.Reading.{aids_of, lists_ok, size_meaning, value_meaning}
 use Rattle.record_text.proofs.LinesLaws.{refused-read, line-parts}
 use Rattle.record_text.proofs.LoopLaws.{Reading, reading-start, reading-more, reading-bad, reading-refused, reading-end}
-use Rattle.record_file.specs.Reading.{size_meaning, value_meaning}
-use Rattle.record_read.specs.Told.{only, PutIf}
+
+-- the whole patterns of lent words
+pub list_counts : (n : ℕ) (words : List ℕ) → length (patterns_of n words) ≡ whole_patterns n (length words)
+list_counts n words = length-patterns n words
+
+-- the counts are set against the whole patterns of the lent words
+pub lists-lent :
+    (words4 words8 words16 : List ℕ) (count4 count8 count16 : ℕ) (texture : List ℕ)
+    → each_size (λ n. count_ok (whole_patterns n (for_size n (length words4) (length words8) (length words16))) (for_size n count4 count8 count16))
+    ≡ lists_ok (aids_of words4 count4 words8 count8 words16 count16 texture)
+lists-lent words4 words8 words16 count4 count8 count16 texture = rw (list_counts 4 words4, list_counts 8 words8, list_counts 16 words16)
 
 -- ---- a value's line
 
+-- a value that does not rise is refused
 module _ (k low : ℕ) {p : Parsed ℕ} {v : ℕ} {t : List ℕ} (e : p ≡ found v t) where
-  pub value-high : 255 < v → refused_at 3 k ≡ line k p (value_meaning low) read
-  unfolding value_meaning
-  value-high h = rw (e, le-ltb v 256 (omega arith))
-
   pub value_low : v ≤ 255 → v < low → refused_at 3 k ≡ line k p (value_meaning low) read
   unfolding value_meaning
   value_low h l = rw (e, lt-ltb v 256 (omega arith), lt-leb low v l)
 
-  pub value-right : v ≤ 255 → low ≤ v → read v t ≡ line k p (value_meaning low) read
-  unfolding value_meaning
-  value-right h l = rw (e, lt-ltb v 256 (omega arith), le-leb low v l)
-
--- a value that was read is a byte
-pub value-byte : (k low : ℕ) (p : Parsed ℕ) {v : ℕ} {t : List ℕ} → read v t ≡ line k p (value_meaning low) read → v < 256
-unfolding value_meaning
-value-byte k low p {v} {t} e =
-    let r = line-parts k (value_meaning low) read p v t (sym e) in
-    let q = (holds ((ltb r.value 256 && leb low r.value, 3) ∷ []) 0 r.sound).0 in
-    let b = ltb-true r.value 256 (both_of (ltb r.value 256) (leb low r.value) q.0).0 in
-    let s : r.value ≡ v = same r.then in
-    omega arith
-  where
-    same : {a b : ℕ} {s t : List ℕ} → read a s ≡ read b t → a ≡ b
-    same e = cc
-
--- ---- the size line's numbers
-
-module _ (texture : ℕ) (z : SizeFields) where
-  -- the checks of size and sides, and those after them
-  abbrev sizes : List (Bool × ℕ)
-  sizes = (size_ok z.n, 1) ∷ (sides_ok (state_of z.n z.width z.height 0), 8) ∷ []
-
-  abbrev others : List (Bool × ℕ)
-  others = (texture_ok texture (z.width * z.height), 2) ∷ (leb 1 z.values && leb z.values most_values, 3) ∷ []
-
-  pub size-sides : {x : ℕ} → x ≡ new_refusal z.n z.width z.height → (x ≡ 0 → ⊥) → x ≡ size_meaning texture z
-  unfolding size_meaning new_refusal
-  size-sides e h = e ∙ sym (kept sizes (refusal others 0) (λ q. h (e ∙ q)))
-
-  pub size-rest : new_refusal z.n z.width z.height ≡ 0 → size_meaning texture z ≡ refusal others 0
-  unfolding size_meaning new_refusal
-  size-rest h = passes sizes (refusal others 0) (holds sizes 0 h).0
-
 -- ---- a loop over lines
 
 -- the same refusal, of lines with other values
-abbrev other : {A B : Type 0} → Lined A → Lined B
+abbrev pub other : {A B : Type 0} → Lined A → Lined B
 other (refused_at n k) = refused_at n k
 other (read a s) = refused_at 0 0
 
-same-refusal : {A B : Type 0} {n k i j : ℕ} → ◌≡◌ {A = Lined A} (refused_at n k) (refused_at i j) → ◌≡◌ {A = Lined B} (refused_at i j) (refused_at n k)
+pub same-refusal : {A B : Type 0} {n k i j : ℕ} → ◌≡◌ {A = Lined A} (refused_at n k) (refused_at i j) → ◌≡◌ {A = Lined B} (refused_at i j) (refused_at n k)
 same-refusal e = ap other (sym e)
 
 module _ {S A : Type 0} (p : Parser A) (meaning : S → A → ℕ) (step : S → A → S) (m k : ℕ) (c₀ : S) (s₀ : List ℕ) where
@@ -128,20 +98,36 @@ module _ {S A : Type 0} (p : Parser A) (meaning : S → A → ℕ) (step : S →
   pub going_end : {i : ℕ} {c : S} {s : List ℕ} {Kept : List A → Type 0} (now : Going i c s Kept) → m ≤ i → many_lines p meaning step m k c₀ s₀ ≡ read now.values s
   going_end {i} {c} {s} now h = reading-end p meaning step m k c₀ s₀ i c now.values s now.so_far h
 
--- what a loop answers and leaves
-pub loop-refused :
-    {A X : Type 0} (put : List A → X) (x : Lined (List A)) (t : X) {n j : ℕ} → x ≡ refused_at n j → (refused_at n j ≡ only x) × PutIf put x t
-loop-refused put x t e = rw e (refl, tt)
+-- the values l stand before the old ones, and one more is stored
+pub put_next :
+    {A : Type 0} (d : A) (l : List A) (v : A) (old : List A) {x : List A} {i : ℕ} → length l ≡ i → x ≡ l ++ drop i old → i < length old
+    → set x i v ≡ (l ++ (v ∷ [])) ++ drop (i + 1) old
+put_next d l v old {x} {i} c e h =
+    let n : suc i ≡ i + 1 = omega arith in
+    rw (e, drop-cons old i d h, set_at l (get_or old i d) (drop (suc i) old) v i c, n) (sym (append_snoc l v (drop (i + 1) old)))
 
-pub loop-read :
-    {A X : Type 0} (put : List A → X) (x : Lined (List A)) (t : X) {l : List A} {s : List ℕ} → x ≡ read l s → t ≡ put l → (read tt s ≡ only x) × PutIf put x t
-loop-read put x t e h = rw e (refl, h)
+-- ---- the size line's numbers
 
--- a table's value stored
-pub stored-value :
-    (l : List ℕ) (v : ℕ) (x : List ℕ) {y : List ℕ} {i w : ℕ} → length l ≡ i → y ≡ sets x 0 l → w ≡ v → set y i w ≡ sets x 0 (l ++ (v ∷ []))
-stored-value l v x {y} {i} {w} c e q = rw (e, ← c, q) (sym (more l x 0 ∙ ap (λ (k : ℕ). set (sets x 0 l) k v) (omega arith)))
-  where
-    more : (l x : List ℕ) (j : ℕ) → sets x j (l ++ (v ∷ [])) ≡ set (sets x j l) (j + length l) v
-    more [] x j = rw (add-zero j)
-    more (b ∷ l) x j = rw (add-suc j (length l), ← suc-add j (length l)) (more l (set x j b) (suc j))
+module _ (texture : ℕ) (z : SizeFields) where
+  -- the checks of size and sides, and those after them
+  abbrev sizes : List (Bool × ℕ)
+  sizes = (size_ok z.n, 1) ∷ (sides_ok (state_of z.n z.width z.height 0), 8) ∷ []
+
+  abbrev others : List (Bool × ℕ)
+  others = (texture_ok texture (z.width * z.height), 2) ∷ (leb 1 z.values && leb z.values most_values, 3) ∷ []
+
+  -- one of the first two refuses, or neither does
+  pub size_sides : (r : Refusal) → number_of r ≡ new_refusal z.n z.width z.height → number_of r ≡ size_meaning texture z
+  unfolding size_meaning new_refusal
+  size_sides r e = e ∙ sym (kept sizes (refusal others 0) (λ q. omega (arith, number_some r, e, q)))
+
+  pub size_rest : 0 ≡ new_refusal z.n z.width z.height → size_meaning texture z ≡ refusal others 0
+  unfolding size_meaning new_refusal
+  size_rest e = passes sizes (refusal others 0) (holds sizes 0 (sym e)).0
+
+-- all are stored
+pub stored_all : {A : Type 0} (l old : List A) {x : List A} {i : ℕ} → x ≡ l ++ drop i old → length old ≤ i → x ≡ l
+stored_all l old e h = e ∙ rw (drop_of_length-le old h, append-nil l)
+
+pub loop_read : {A : Type 0} {x : Lined A} {l t : A} {s : List ℕ} → x ≡ read l s → t ≡ l → read t s ≡ x
+loop_read {s = s} e q = ap (λ (y : _). read y s) q ∙ sym e

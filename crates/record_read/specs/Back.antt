@@ -1,5 +1,5 @@
 -- Document 01, "House file": what reading answers, and what it leaves of what is lent.
-use Rattle.std.specs.Prelude.{ℕ, ◌*◌, List, map, ◌++◌, ◌≡◌, ℤ, length, get_or, drop, replicate}
+use Rattle.std.specs.Prelude.{ℕ, ◌*◌, List, map, ◌++◌, ◌≡◌, ℤ, length, get_or, drop, replicate, Result, Ok, Err}
 use Rattle.std.proofs.lemmas.List.Edits.{sets}
 use Rattle.depth_table.specs.Table.{most_values}
 use Rattle.record.specs.declared.Record.{Record}
@@ -10,7 +10,9 @@ use Rattle.sheet.specs.State.{state_of, area, blocks_of, finished}
 use Rattle.sheet.specs.Place.{Material, material_of, placed_in_turn}
 use Rattle.record_text.specs.Lines.{Lined, refused_at, read}
 use Rattle.record_file.specs.Reading.{File, Aids, read_file}
+use Rattle.pattern.specs.Refusal.{number_of}
 use Rattle.record_read.specs.declared.reading.FileBack.{FileBack}
+use Rattle.record_read.specs.declared.lines.LineRefusal.{LineRefusal}
 
 -- the empty sheet that the records are placed on, what they are placed with, and which they are
 abbrev pub empty_sheet : File → Sheet
@@ -49,9 +51,27 @@ abbrev pub leaving : {X : Type 0} → Lined File → (File → X) → X → X
 leaving (refused_at n k) new old = old
 leaving (read F s) new old = new F
 
+-- what reading answers: the number of a refusal (0 for none) and its line; where there is none, the finished state, the table and its
+-- count
+pub record Back : Type 0 where
+  pub refusal : ℕ
+  pub line : ℕ
+  pub sheet : Sheet
+  pub values : ℕ
+  pub table : List ℕ
+
+-- the answer where a line is refused
+abbrev pub refused_back : ℕ → ℕ → Back
+refused_back n k = record { refusal = n; line = k; sheet = state_of 0 0 0 0; values = 0; table = replicate most_values 0 }
+
+-- what the code's answer says
+abbrev pub back_told : Result FileBack LineRefusal → Back
+back_told (Ok b) = record { refusal = 0; line = 0; sheet = b.sheet; values = b.values; table = b.table }
+back_told (Err e) = refused_back (number_of e.refusal) e.line
+
 -- the answer: the number of a refusal and its line, or the finished state and the table, its values before zeros, with its count
-abbrev pub file_back : Lined File → FileBack
-file_back (refused_at n k) = record { refusal = n; line = k; sheet = state_of 0 0 0 0; values = 0; table = replicate most_values 0 }
+abbrev pub file_back : Lined File → Back
+file_back (refused_at n k) = refused_back n k
 file_back (read F s) =
     record {
       refusal = 0;
@@ -76,11 +96,11 @@ abbrev pub reading : Aids → Lent → List ℕ → Lined File
 reading A L s = read_file A (length L.samples) (length L.records) s
 
 -- all that follows where reading makes x of the bytes: the answer, and what is lent afterwards
-pub record Leaves (A : Aids) (x : Lined File) (before : Lent) (r : FileBack) (after : Lent) : Type 0 where
+pub record Leaves (A : Aids) (x : Lined File) (before : Lent) (r : Back) (after : Lent) : Type 0 where
   pub answered : r ≡ file_back x
   pub kept : after.records ≡ leaving x (λ F. records_back F before.records) before.records
   pub drawn : after.samples ≡ leaving x (λ F. samples_back A F before.samples) before.samples
 
 -- all that the call does
-abbrev pub Reads : Aids → Lent → List ℕ → FileBack → Lent → Type 0
+abbrev pub Reads : Aids → Lent → List ℕ → Back → Lent → Type 0
 Reads A before s r after = Leaves A (reading A before s) before r after

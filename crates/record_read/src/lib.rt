@@ -2,10 +2,9 @@
 #![tactic(auto)]
 
 mod blocks;
-mod copy;
 mod front;
 mod lines;
-mod loops;
 mod reading;
 
+pub use lines::LineRefusal;
 pub use reading::{FileBack, read};

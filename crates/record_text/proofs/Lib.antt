@@ -7,7 +7,7 @@ pub mod ReadSteps
 pub mod LineLaws
 pub mod LineSteps
 pub mod LengthLaws
-pub mod TextSteps
 pub mod LinesLaws
 pub mod ItemLaws
 pub mod LoopLaws
+pub mod Uncited

@@ -1,4 +1,4 @@
--- The steps of reading a line's fields as the code takes them.
+-- The steps of reading a line's fields in turn.
 use Prim.Native.Nat.{ℕ, suc, ◌+◌, ◌-◌, ◌≤◌, ◌<◌}
 use mathlib.Core.Path.{◌≡◌, refl, sym, ◌∙◌, ap}
 use mathlib.Core.Bool.{Bool, false}

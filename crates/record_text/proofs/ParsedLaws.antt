@@ -1,11 +1,18 @@
 -- Laws of reading: what follows where something is found, and inverse laws of texts put together.
-use Prim.Native.Nat.{ℕ}
+use Prim.Native.Nat.{ℕ, ◌+◌}
 use mathlib.Core.Path.{◌≡◌, refl, sym, subst, ap, ◌∙◌}
 use mathlib.Core.Bool.{Bool, true, false, cond}
 use mathlib.Core.List.{List, [], ◌∷◌, ◌++◌}
 use lib.Dec.{eqb}
+use lib.ListN.{length, take, drop}
+use Rattle.std.specs.Prelude.{Option, Some, None, MatchOption}
+use Rattle.std.specs.Borrow.{Bor}
+use Rattle.std.specs.Cmp.Lexicographic.{pointwise}
+use Rattle.std.proofs.lemmas.Bool.Decides.{Decides-eqb}
+use Rattle.std.proofs.lemmas.Slice.Eq.{strip_prefix_is}
 use borrow.Author.Tests.{eq-eqb, eqb-true}
 use Rattle.record_text.specs.Parsed.{Parsed, Parser, bad_form, found, and_then, more, mapped, exactly}
+use Rattle.record_text.specs.Told.{text_parsed}
 use Rattle.record_text.specs.Codec.{Codec}
 
 -- a choice by a test, each side with what the test says there
@@ -85,3 +92,18 @@ exactly-wrote (w ∷ ws) (b ∷ s) t u =
 -- both inverse laws of a title line
 pub exactly-codec : (w : List ℕ) → Codec (exactly w) (λ _. w) (λ _. Unit {0})
 exactly-codec w = record { reads = λ u t h. exactly_reads w t; wrote = λ u s t p. (exactly-wrote w s t u p, tt) }
+
+-- a prefix that is taken off is read, and where there is none, the text is another
+pub exactly_stripped :
+    (w s : List ℕ) (r : Option (Bor (List ℕ)))
+    → MatchOption r (pointwise eqb (take (length w) s) w ≡ false)
+    (λ x. (pointwise eqb (take (length w) s) w ≡ true) × (x.now ≡ drop (length w) s) × (length x.now + length w ≡ length s))
+    → text_parsed r ≡ exactly w s
+exactly_stripped w s (Some x) h =
+    let e : s ≡ w ++ x.now = strip_prefix_is Decides-eqb s w (Some x) h in
+    sym (ap (exactly w) e ∙ exactly_reads w x.now)
+exactly_stripped w s None h = go (exactly w s) refl
+  where
+    go : (p : Parsed (Unit {0})) → exactly w s ≡ p → bad_form ≡ p
+    go bad_form e = refl
+    go (found u t) e = absurd (strip_prefix_is Decides-eqb s w None h t (exactly-wrote w s t u e))

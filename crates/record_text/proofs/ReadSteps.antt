@@ -1,4 +1,4 @@
--- The steps of reading as the code takes them, at a place p of the bytes s.
+-- The steps of reading as the code takes them.
 use Prim.Native.Nat.{ℕ, zero, suc, ◌+◌, ◌-◌, ◌*◌, ◌^◌, ◌≤◌, ◌<◌}
 use mathlib.Core.Path.{◌≡◌, refl, sym, ◌∙◌, ap}
 use mathlib.Core.Bool.{Bool, true, false, cond, ◌&&◌}
@@ -6,163 +6,178 @@ use mathlib.Core.List.{List, [], ◌∷◌}
 use native.Mathlib.Omega.{arith}
 use native.Mathlib.Nat.{mul_assoc, pow-succ', mul-le-mul_right, mul-le-mul_left, le_trans, pow-le-pow_right}
 use native.Mathlib.Numerals.{add-one}
-use lib.ListN.{length, get_or, drop, drop_of_length-le}
-use lib.Seq.{drop-cons}
-use lib.IntN.{ℤ, pos, negsuc}
-use lib.Signed.{mag}
-use mir.Syntax.{w32}
-use mir.Val.{to_z, of_z}
-use Rattle.record_text.proofs.SignLaws.{word_back}
+use lib.ListN.{length, get_or, take, drop, length-drop, drop_of_length-le}
+use lib.Seq.{drop-cons, take_all}
 use lib.Dec.{ltb, eqb}
+use Rattle.std.specs.Prelude.{Option, Some, None, IfSome}
+use Rattle.std.specs.Borrow.{Bor}
+use Rattle.std.specs.Cmp.Lexicographic.{pointwise}
+use Rattle.arith.proofs.Bools.{both_of}
 use borrow.Author.Tests.{ltb-true, eq-eqb, ne_eqb}
-use Rattle.record_text.specs.declared.cursor.Cursor.{Cursor}
-use Rattle.record_text.specs.Told.{remaining}
 use Rattle.record_text.specs.Numeral.{numeral_end}
 use Rattle.record_text.specs.Parsed.{Parsed, bad_form, found, and_then}
 use Rattle.record_text.specs.Field.{digit_in, if_digit, more_digits, digit_room, number, after_minus, after_none, signed}
+use Rattle.record_text.specs.Told.{parsed}
+use Rattle.record_text.proofs.FieldLaws.{number-wrote}
 
 -- what stands at p, and the rest
 pub at_place : (s : List ℕ) (p : ℕ) → p < length s → drop p s ≡ get_or s p 0 ∷ drop (p + 1) s
 at_place s p h = drop-cons s p 0 h ∙ ap (λ (n : ℕ). get_or s p 0 ∷ drop n s) (sym (add-one p))
 
-pub past : (s : List ℕ) (p : ℕ) → length s ≤ p → drop p s ≡ []
-past s p h = drop_of_length-le s h
-
 -- ---- is a byte a digit?
 
-module _ {A : Type 0} (b d : ℕ) (x : Parsed A) (e : d ≡ digit_in b) where
+module _ {A : Type 0} (b : ℕ) (x : Parsed A) where
   -- a byte that is none
-  digit-none : 9 < d → if_digit b x ≡ bad_form
-  digit-none h = go (ltb b 48) (ltb b 58) refl e
+  pub digit_none : (digit_in b < 10 → ⊥) → if_digit b x ≡ bad_form
+  digit_none = go (ltb b 48) (ltb b 58) refl
     where
-      go : (l u : Bool) → ltb b 58 ≡ u → d ≡ cond l 10 (cond u (b - 48) 10) → cond l bad_form (cond u x bad_form) ≡ bad_form
-      go true u q e = refl
-      go false true q e = absurd (omega (arith, ltb-true b 58 q))
-      go false false q e = refl
+      go : (l u : Bool) → ltb b 58 ≡ u → (cond l 10 (cond u (b - 48) 10) < 10 → ⊥) → cond l bad_form (cond u x bad_form) ≡ bad_form
+      go true u q h = refl
+      go false true q h = absurd (h (omega (arith, ltb-true b 58 q)))
+      go false false q h = refl
 
   -- and one that is
-  digit-some : d ≤ 9 → (if_digit b x ≡ x) × (b - 48 ≡ d)
-  digit-some h = go (ltb b 48) (ltb b 58) e
+  pub digit_some : digit_in b < 10 → (if_digit b x ≡ x) × (b - 48 ≡ digit_in b)
+  digit_some = go (ltb b 48) (ltb b 58)
     where
-      go : (l u : Bool) → d ≡ cond l 10 (cond u (b - 48) 10) → (cond l bad_form (cond u x bad_form) ≡ x) × (b - 48 ≡ d)
-      go true u e = absurd (omega arith)
-      go false true e = (refl, sym e)
-      go false false e = absurd (omega arith)
+      go : (l u : Bool) → cond l 10 (cond u (b - 48) 10) < 10 → (cond l bad_form (cond u x bad_form) ≡ x) × (b - 48 ≡ cond l 10 (cond u (b - 48) 10))
+      go true u h = absurd (omega arith)
+      go false true h = (refl, refl)
+      go false false h = absurd (omega arith)
 
 -- ---- one byte of a run of digits
 
-module _ (e : ℕ) where
-  pub more-nil : (k a : ℕ) (s : List ℕ) → s ≡ [] → more_digits e k a s ≡ bad_form
+module _ (e a b : ℕ) (s : List ℕ) where
+  -- the byte that ends them
+  more-stop : (k : ℕ) → b ≡ e → more_digits e k a (b ∷ s) ≡ found a s
   unfolding more_digits
-  more-nil k a s h = rw h
+  more-stop zero h = rw (eq-eqb b e h)
+  more-stop (suc k) h = rw (eq-eqb b e h)
 
-  pub more-stop : (k a b : ℕ) (s : List ℕ) → b ≡ e → more_digits e k a (b ∷ s) ≡ found a s
+  -- a byte more where no digit may follow
+  more-full : (k : ℕ) → (b ≡ e → ⊥) → k ≡ 0 → more_digits e k a (b ∷ s) ≡ bad_form
   unfolding more_digits
-  more-stop zero a b s h = rw (eq-eqb b e h)
-  more-stop (suc k) a b s h = rw (eq-eqb b e h)
+  more-full zero h z = rw (ne_eqb b e h)
+  more-full (suc k) h z = absurd (omega arith)
 
-  pub more-full : (k a b : ℕ) (s : List ℕ) → (b ≡ e → ⊥) → k ≡ 0 → more_digits e k a (b ∷ s) ≡ bad_form
+  -- a byte that is no digit
+  more-none : (k : ℕ) → (b ≡ e → ⊥) → (digit_in b < 10 → ⊥) → more_digits e k a (b ∷ s) ≡ bad_form
   unfolding more_digits
-  more-full zero a b s h z = rw (ne_eqb b e h)
-  more-full (suc k) a b s h z = absurd (omega arith)
+  more-none zero h q = rw (ne_eqb b e h)
+  more-none (suc k) h q = rw (ne_eqb b e h) (digit_none b _ q)
 
-  pub more-none : (k a b d : ℕ) (s : List ℕ) → (b ≡ e → ⊥) → d ≡ digit_in b → 9 < d → more_digits e k a (b ∷ s) ≡ bad_form
+  -- a digit more
+  more-next : (k : ℕ) → (b ≡ e → ⊥) → digit_in b < 10 → more_digits e (suc k) a (b ∷ s) ≡ more_digits e k (a * 10 + digit_in b) s
   unfolding more_digits
-  more-none zero a b d s h q l = rw (ne_eqb b e h)
-  more-none (suc k) a b d s h q l = rw (ne_eqb b e h) (digit-none b d _ q l)
+  more-next k h q =
+      let w = digit_some b (more_digits e k (a * 10 + (b - 48)) s) q in
+      rw (ne_eqb b e h) (w.0 ∙ ap (λ (d : ℕ). more_digits e k (a * 10 + d) s) w.1)
 
-  pub more-next :
-      (k a b d : ℕ) (s : List ℕ) → (b ≡ e → ⊥) → (k ≡ 0 → ⊥) → d ≡ digit_in b → d ≤ 9
-      → more_digits e k a (b ∷ s) ≡ more_digits e (k - 1) (a * 10 + d) s
+-- i of at most `most` digits are read: those that are left, and the byte e after them, give what the whole gives
+pub record DigitsRead (e most first : ℕ) (s : List ℕ) (i value : ℕ) : Type 0 where
+  pub few : i ≤ most
+  pub left : more_digits e (most - i) value (drop i s) ≡ more_digits e most first s
+  pub small : (value + 1) * 10 ^ (most - i) ≤ numeral_end
+
+module _ {e most first : ℕ} {s : List ℕ} {i value : ℕ} (now : DigitsRead e most first s i value) where
+  -- the bytes end
+  pub digits_end : length s ≤ i → bad_form ≡ more_digits e most first s
   unfolding more_digits
-  more-next zero a b d s h z q l = absurd (z refl)
-  more-next (suc k) a b d s h z q l =
-      let w = digit-some b d (more_digits e k (a * 10 + (b - 48)) s) q l in
-      let r : k ≡ suc k - 1 = omega arith in
-      rw (ne_eqb b e h) (w.0 ∙ rw (w.1, ← r))
+  digits_end h = rw (drop_of_length-le s h) at now.left
 
--- the value that digits make stays below `numeral_end`
-pub value-small : (v l : ℕ) → (l ≡ 0 → ⊥) → (v + 1) * 10 ^ l ≤ numeral_end → v < 10000
-value-small v zero z h = absurd (z refl)
-value-small v (suc l) z h =
-    omega (arith, h, mul-le-mul_left (v + 1) (pow-le-pow_right {n = 10} (omega arith) {i = 1} {j = suc l} (omega arith)))
+  -- the value stays below `numeral_end` where there is room for a digit more
+  pub digits_small : (i ≡ most → ⊥) → value < 10000
+  digits_small h =
+      omega (arith, now.small, now.few, mul-le-mul_left (value + 1) (pow-le-pow_right {n = 10} (omega arith) {i = 1} {j = most - i} (omega (arith, now.few))))
 
-pub value_grows : (v l d : ℕ) → (l ≡ 0 → ⊥) → d < 10 → (v + 1) * 10 ^ l ≤ numeral_end → (v * 10 + d + 1) * 10 ^ (l - 1) ≤ numeral_end
-value_grows v zero d z hd h = absurd (z refl)
-value_grows v (suc l) d z hd h =
-    let e : suc l - 1 ≡ l = omega arith in
-    rw e
-    (le_trans (mul-le-mul_right (10 ^ l) (let q : v * 10 + d + 1 ≤ (v + 1) * 10 = omega arith in q)) (rw (mul_assoc (v + 1) 10 (10 ^ l), ← pow-succ' 10 l) h))
+  module _ (h : i < length s) where
+    -- what follows from the byte at i
+    here : (r : Parsed ℕ) → more_digits e (most - i) value (get_or s i 0 ∷ drop (i + 1) s) ≡ r → r ≡ more_digits e most first s
+    here r p = sym p ∙ ap (more_digits e (most - i) value) (sym (at_place s i h)) ∙ now.left
+
+    -- it ends them
+    pub digits_stop : get_or s i 0 ≡ e → found value (take (length s - (i + 1)) (drop (i + 1) s)) ≡ more_digits e most first s
+    digits_stop q =
+        here (found value (take (length s - (i + 1)) (drop (i + 1) s)))
+        (more-stop e value (get_or s i 0) (drop (i + 1) s) (most - i) q
+        ∙ ap (found value) (sym (take_all (length s - (i + 1)) (drop (i + 1) s) (omega (arith, length-drop (i + 1) s)))))
+
+    -- no digit may follow
+    pub digits_full : (get_or s i 0 ≡ e → ⊥) → i ≡ most → bad_form ≡ more_digits e most first s
+    digits_full q z = here bad_form (more-full e value (get_or s i 0) (drop (i + 1) s) (most - i) q (omega arith))
+
+    -- it is no digit
+    pub digits_none : (get_or s i 0 ≡ e → ⊥) → (digit_in (get_or s i 0) < 10 → ⊥) → bad_form ≡ more_digits e most first s
+    digits_none q n = here bad_form (more-none e value (get_or s i 0) (drop (i + 1) s) (most - i) q n)
+
+    -- it is a digit more
+    pub digits_more :
+        (d : ℕ) → (get_or s i 0 ≡ e → ⊥) → (i ≡ most → ⊥) → digit_in (get_or s i 0) < 10 → d ≡ digit_in (get_or s i 0)
+        → DigitsRead e most first s (i + 1) (value * 10 + d)
+    digits_more d q z h r =
+        let few = now.few in
+        let small = now.small in
+        let k : most - i ≡ suc (most - (i + 1)) = omega arith in
+        let v : value * 10 + d + 1 ≤ (value + 1) * 10 = omega arith in
+        record {
+          few = omega arith;
+          left =
+              here (more_digits e (most - (i + 1)) (value * 10 + d) (drop (i + 1) s))
+              (rw (k, r) (more-next e value (get_or s i 0) (drop (i + 1) s) (most - (i + 1)) q h));
+          small = le_trans (mul-le-mul_right (10 ^ (most - (i + 1))) v) (rw (mul_assoc (value + 1) 10 (10 ^ (most - (i + 1))), ← pow-succ' 10 (most - (i + 1)), ← k) small);
+        }
+
+-- what each step of reading digits says
+pub ruleset digit_steps = (digits_end, digits_small, digits_stop, digits_full, digits_none)
 
 -- ---- the first byte of a numeral
 
-pub number-nil : (e : ℕ) (s : List ℕ) → s ≡ [] → number e s ≡ bad_form
+-- there is none
+pub number_nil : (e : ℕ) (s : List ℕ) → length s ≡ 0 → bad_form ≡ number e s
 unfolding number
-number-nil e s h = rw h
+number_nil e [] h = refl
+number_nil e (b ∷ s) h = absurd (omega arith)
 
-pub number-none : (e b d : ℕ) (s : List ℕ) → d ≡ digit_in b → 9 < d → number e (b ∷ s) ≡ bad_form
+-- it is no digit
+pub number_none : (e b : ℕ) (s t : List ℕ) → s ≡ b ∷ t → (digit_in b < 10 → ⊥) → bad_form ≡ number e s
 unfolding number
-number-none e b d s q l = digit-none b d _ q l
+number_none e b s t h q = rw h (sym (digit_none b _ q))
 
-pub number-digit : (e b d r : ℕ) (s : List ℕ) → d ≡ digit_in b → d ≤ 9 → r ≡ digit_room d → number e (b ∷ s) ≡ more_digits e r d s
+-- it is a digit
+pub number_digit : (e b : ℕ) (s t : List ℕ) → s ≡ b ∷ t → digit_in b < 10 → more_digits e (digit_room (digit_in b)) (digit_in b) t ≡ number e s
 unfolding number
-number-digit e b d r s q l w =
-    let g = digit-some b d (more_digits e (digit_room (b - 48)) (b - 48) s) q l in
-    g.0 ∙ rw (g.1, w)
+number_digit e b s t h q =
+    let w = digit_some b (more_digits e (digit_room (b - 48)) (b - 48) t) q in
+    rw (h, ← w.1) (sym w.0)
 
--- after a digit that is not 0 there is room for four
-pub room-four : (d : ℕ) → (d ≡ 0 → ⊥) → 4 ≡ digit_room d
-room-four zero h = absurd (h refl)
-room-four (suc d) h = refl
+-- a number that was read has a numeral
+pub number_small : (e : ℕ) (s : List ℕ) (r : Option (ℕ × Bor (List ℕ))) → parsed r ≡ number e s → IfSome r (λ p. p.0 < numeral_end)
+number_small e s (Some p) h = (number-wrote e p.0 s p.1.now (sym h)).1
+number_small e s None h = tt
 
--- the first digit leaves room for those that may follow it
-pub first_small : (d r : ℕ) → d ≤ 9 → r ≡ digit_room d → (d + 1) * 10 ^ r ≤ numeral_end
-first_small zero r h w = rw w (omega arith)
-first_small (suc d) r h w = rw w (omega arith)
+-- what each step of reading a numeral says
+pub ruleset number_steps = (number_nil, number_digit)
 
--- ---- a signed number at a place
+-- ---- a signed number
 
-pub signed-nil : (m : Bool) (e : ℕ) (s : List ℕ) → s ≡ [] → signed m e s ≡ bad_form
+-- the text starts with a minus
+pub signed_minus : (e : ℕ) (s t : List ℕ) → pointwise eqb (take 1 s) (45 ∷ []) ≡ true → t ≡ drop 1 s → and_then (number e t) after_minus ≡ signed true e s
 unfolding signed
-signed-nil m e s h = rw h
+signed_minus e [] t h q = cc
+signed_minus e (b ∷ s) t h q = rw (q, (both_of (eqb b 45) true h).0)
 
-module _ (m : Bool) (e : ℕ) (s : List ℕ) (at : ℕ) (h : at < length s) (x : Bool) (test : x ≡ (m && eqb (get_or s at 0) 45)) where
-  signed-minus : x ≡ true → signed m e (drop at s) ≡ and_then (number e (drop (at + 1) s)) after_minus
-  unfolding signed
-  signed-minus b = rw (at_place s at h, ← test, b)
+-- it does not
+pub signed_plain : (e : ℕ) (s : List ℕ) → pointwise eqb (take 1 s) (45 ∷ []) ≡ false → and_then (number e s) after_none ≡ signed true e s
+unfolding signed number
+signed_plain e [] h = refl
+signed_plain e (b ∷ s) h = go (eqb b 45) h
+  where
+    go : (x : Bool) → x && true ≡ false → and_then (number e (b ∷ s)) after_none ≡ cond x (and_then (number e s) after_minus) (and_then (number e (b ∷ s)) after_none)
+    go true h = cc
+    go false h = refl
 
-  signed-none : x ≡ false → signed m e (drop at s) ≡ and_then (number e (drop at s)) after_none
-  unfolding signed
-  signed-none b = rw (at_place s at h, ← test, b)
-
-  pub signed-negative :
-      (v : ℕ) (u : List ℕ) (z : ℤ) → x ≡ true → number e (drop (at + 1) s) ≡ found v u → (v ≡ 0 → ⊥) → z ≡ negsuc (v - 1)
-      → found z u ≡ signed m e (drop at s)
-  signed-negative zero u z b n nz ez = absurd (nz refl)
-  signed-negative (suc v) u z b n nz ez = rw (signed-minus b, n, ez) (ap (λ (k : ℕ). found (negsuc k) u) (omega arith))
-
-  pub signed-minus-zero : (v : ℕ) (u : List ℕ) → x ≡ true → number e (drop (at + 1) s) ≡ found v u → v ≡ 0 → bad_form ≡ signed m e (drop at s)
-  signed-minus-zero v u b n nz = rw (signed-minus b, n, nz)
-
-  pub signed-minus-bad : x ≡ true → number e (drop (at + 1) s) ≡ bad_form → bad_form ≡ signed m e (drop at s)
-  signed-minus-bad b n = rw (signed-minus b, n)
-
-  pub signed-positive : (v : ℕ) (u : List ℕ) (z : ℤ) → x ≡ false → number e (drop at s) ≡ found v u → z ≡ pos v → found z u ≡ signed m e (drop at s)
-  signed-positive v u z b n ez = rw (signed-none b, n, ez)
-
-  pub signed-bad : x ≡ false → number e (drop at s) ≡ bad_form → bad_form ≡ signed m e (drop at s)
-  signed-bad b n = rw (signed-none b, n)
-
--- a minus and a numeral of 0, or of another number
-pub signed_zero :
-    (m : Bool) (e : ℕ) (s : List ℕ) (from : Cursor) {x : Bool} {v : ℕ} {u : List ℕ} → from.at < length s
-    → x ≡ (m && eqb (get_or s from.at 0) 45) → x ≡ true → found v u ≡ number e (remaining s (record { at = from.at + 1 })) → v ≡ 0
-    → bad_form ≡ signed m e (remaining s from)
-signed_zero m e s from {x} {v} {u} h test b n z = signed-minus-zero m e s from.at h x test v u b (sym n) z
-
-pub signed_below :
-    (m : Bool) (e : ℕ) (s : List ℕ) (from : Cursor) {x : Bool} {v : ℕ} {u : List ℕ} {z : ℤ} → from.at < length s
-    → x ≡ (m && eqb (get_or s from.at 0) 45) → x ≡ true → found v u ≡ number e (remaining s (record { at = from.at + 1 })) → (v ≡ 0 → ⊥)
-    → z ≡ negsuc (v - 1) → mag z < 2 ^ 31 → found (to_z w32 (of_z w32 z)) u ≡ signed m e (remaining s from)
-signed_below m e s from {x} {v} {u} {z} h test b n nz q f =
-    signed-negative m e s from.at h x test v u (to_z w32 (of_z w32 z)) b (sym n) nz (word_back z (record { sfits = f }) ∙ q)
+-- a field in which no minus may stand
+pub signed_false : (e : ℕ) (s : List ℕ) → signed false e s ≡ and_then (number e s) after_none
+unfolding signed number
+signed_false e [] = refl
+signed_false e (b ∷ s) = refl

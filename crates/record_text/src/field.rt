@@ -1,124 +1,76 @@
 // Reading one field: a number and the byte after it.
-ghost use Rattle.std.specs.Prelude.{◌≡◌, ◌&&◌, eqb, ◌+◌, ◌*◌, ◌^◌, ◌≤◌, drop};
+ghost use Rattle.std.specs.Prelude.{◌≡◌, ◌+◌, ◌*◌, ◌^◌, ◌<◌, ◌≤◌, true, SomeIff, IfSome};
 ghost use Rattle.record_text.specs.Numeral.{numeral_end};
-ghost use Rattle.record_text.specs.Field.{digit_in, more_digits, digit_room, number, signed};
-ghost use Rattle.record_text.specs.Told.{remaining, number_told, signed_told};
+ghost use Rattle.record_text.specs.Parsed.{and_then};
+ghost use Rattle.record_text.specs.Field.{digit_in, more_digits, digit_room, number, after_minus, signed};
+ghost use Rattle.record_text.specs.Told.{parsed};
 
-use crate::cursor::Cursor;
-use crate::sign::{negative, positive};
-
-// A number and the place after its field, or text of another form.
-#[derive(Clone, Copy)]
-pub enum NumberRead {
-    Value(u32, Cursor),
-    Bad,
-}
-
-// A signed number and the place after its field, or text of another form.
-#[derive(Clone, Copy)]
-pub enum SignedRead {
-    Value(i32, Cursor),
-    Bad,
-}
-
-// The value of a digit, 10 for a byte that is none.
-fn digit(b: u8) -> u32
-    ensures { result ≡ digit_in b }
+// The value of a digit; none for another byte.
+fn digit(b: u8) -> Option<u32>
+    ensures { SomeIff result (digit_in b < 10) (digit_in b) }
 {
-    if b < 48 {
-        return 10;
+    match b {
+        b'0'..=b'9' => Some(u32::from(b - b'0')),
+        _ => None,
     }
-    if 58 <= b {
-        return 10;
-    }
-    (b - 48) as u32
 }
 
-// At most `most` digits more after those of `first`, and the byte `end`.
-fn read_digits(bytes: &[u8], at: usize, end: u8, most: u32, first: u32) -> NumberRead
+// At most `most` digits more after those of `first`, and the byte `end`: their value, and the bytes after them.
+#[tactic(auto, using(crate::proofs::ReadSteps::digit_steps))]
+fn read_digits(bytes: &[u8], end: u8, most: usize, first: u32) -> Option<(u32, &[u8])>
     requires { (first + 1) * 10 ^ most ≤ numeral_end }
-    ensures { number_told bytes.now result ≡ more_digits end most first (drop at bytes.now) }
+    ensures { parsed result ≡ more_digits end most first bytes.now }
 {
-    let mut p = at;
-    let mut left = most;
     let mut value = first;
-    while p < bytes.len() {
-        let b = bytes[p];
+    for (i, &b) in bytes.iter().enumerate() {
         if b == end {
-            return NumberRead::Value(value, Cursor { at: p + 1 });
+            return Some((value, &bytes[i + 1..]));
         }
-        if left == 0 {
-            return NumberRead::Bad;
+        if i == most {
+            return None;
         }
-        let d = digit(b);
-        if 9 < d {
-            return NumberRead::Bad;
-        }
-        value = value * 10 + d;
-        left -= 1;
-        p += 1;
+        value = value * 10 + digit(b)?;
     }
-    NumberRead::Bad // the bytes end before the field does
+    None // the bytes end before the field does
 }
 
 // How many digits may follow the first digit d.
-fn digit_room(d: u32) -> u32
+fn digit_room(d: u32) -> usize
     ensures { result ≡ digit_room d }
 {
     if d == 0 { 0 } else { 4 }
 }
 
-// A numeral of one to five digits without leading zeros, and the byte `end` after it.
-pub(crate) fn read_number(bytes: &[u8], from: Cursor, end: u8) -> NumberRead
-    ensures { number_told bytes.now result ≡ number end (remaining bytes.now from) }
+// A numeral of one to five digits without leading zeros, and the byte `end`: its value, and the bytes after them.
+#[tactic(auto, using(crate::proofs::ReadSteps::number_steps))]
+pub(crate) fn read_number(bytes: &[u8], end: u8) -> Option<(u32, &[u8])>
+    ensures value { parsed result ≡ number end bytes.now }
+    ensures small { IfSome result (λ p. p.0 < numeral_end) }
 {
-    let at = from.at;
-    if bytes.len() <= at {
-        return NumberRead::Bad;
-    }
-    let d = digit(bytes[at]);
-    if 9 < d {
-        return NumberRead::Bad;
-    }
-    read_digits(bytes, at + 1, end, digit_room(d), d)
+    let (&b, rest) = bytes.split_first()?;
+    let d = digit(b)?;
+    read_digits(rest, end, digit_room(d), d)
 }
 
-// Whether the byte b is a minus in a field where one may stand.
-fn is_minus(minus: bool, b: u8) -> bool
-    ensures { result ≡ minus && eqb b 45 }
+// A nonzero numeral, and the byte `end`: the number below 0 whose minus stands before them, and the bytes after them.
+fn read_negative(bytes: &[u8], end: u8) -> Option<(i32, &[u8])>
+    ensures { parsed result ≡ and_then (number end bytes.now) after_minus }
 {
-    if minus { b == 45 } else { false }
+    let (v, rest) = read_number(bytes, end)?;
+    if v == 0 {
+        return None;
+    }
+    Some((-v.cast_signed(), rest))
 }
 
-// A numeral, or where a minus may stand, a minus and a nonzero numeral; and the byte `end` after it.
-#[tactic(auto, using(crate::proofs::ReadSteps::signed_zero, crate::proofs::ReadSteps::signed_below))]
-pub(crate) fn read_signed(bytes: &[u8], from: Cursor, minus: bool, end: u8) -> SignedRead
-    ensures { signed_told bytes.now result ≡ signed minus end (remaining bytes.now from) }
+// A numeral, or a minus and a nonzero numeral, and the byte `end`: the number, and the bytes after them.
+#[tactic(auto, using(crate::proofs::ReadSteps::signed_minus, crate::proofs::ReadSteps::signed_plain))]
+pub(crate) fn read_signed(bytes: &[u8], end: u8) -> Option<(i32, &[u8])>
+    ensures { parsed result ≡ signed true end bytes.now }
 {
-    let at = from.at;
-    if bytes.len() <= at {
-        return SignedRead::Bad;
+    if let Some(magnitude) = bytes.strip_prefix(b"-") {
+        return read_negative(magnitude, end);
     }
-    if is_minus(minus, bytes[at]) {
-        let n = read_number(bytes, Cursor { at: at + 1 }, end);
-        match n {
-            NumberRead::Value(v, next) => {
-                if v == 0 {
-                    return SignedRead::Bad;
-                }
-                let z = negative(v);
-                SignedRead::Value(z, next)
-            }
-            NumberRead::Bad => SignedRead::Bad,
-        }
-    } else {
-        let n = read_number(bytes, from, end);
-        match n {
-            NumberRead::Value(v, next) => {
-                let z = positive(v);
-                SignedRead::Value(z, next)
-            }
-            NumberRead::Bad => SignedRead::Bad,
-        }
-    }
+    let (v, rest) = read_number(bytes, end)?;
+    Some((v.cast_signed(), rest))
 }

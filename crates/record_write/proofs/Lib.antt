@@ -1,4 +1,6 @@
 -- Laws of writing.
-pub mod SpaceLaws
+pub mod StateLaws
 pub mod WriteLaws
 pub mod FirstLaws
+pub mod CallLaws
+pub mod Uncited

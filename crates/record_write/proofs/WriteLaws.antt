@@ -11,7 +11,7 @@ use Rattle.arith.specs.Checks.{refused, given}
 use Rattle.arith.specs.Lists.{list_of}
 use Rattle.arith.proofs.CheckLaws.{answer-refused, answer-given, lent-refused, lent-given}
 use Rattle.arith.proofs.ListLaws.{list_of-own}
-use Rattle.record_text.specs.declared.cursor.Cursor.{Cursor}
+use Rattle.record_print.specs.declared.cursor.Cursor.{Cursor}
 use Rattle.record.specs.declared.Record.{Record}
 use Rattle.record_text.specs.declared.fields.SizeFields.{SizeFields}
 use Rattle.sheet.specs.declared.Sheet.{Sheet}

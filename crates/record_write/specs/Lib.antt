@@ -1,2 +1,1 @@
--- Document 01, "House file": what the call that writes answers.
-pub mod Told
+-- Writing.

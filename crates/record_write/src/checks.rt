@@ -1,106 +1,71 @@
 // What is checked of a sheet that is written.
-ghost use Rattle.std.specs.Prelude.{◌≡◌, ◌≤◌, leb, length};
+ghost use Rattle.std.specs.Prelude.{◌≡◌, ℕ, leb, length};
 ghost use Rattle.arith.specs.Checks.{refusal};
+ghost use Rattle.pattern.specs.Refusal.{refusal_in};
 ghost use Rattle.pattern.specs.Words.{whole_patterns, patterns_of};
 ghost use Rattle.record.specs.Lent.{record_at};
 ghost use Rattle.record_file.specs.Writing.{first_to, space_for, write_lengths_ok, written_refusal, write_checks};
 
-use pattern::{check, count_ok, whole_patterns};
-use record::{Meaning, Record, meaning_of, record_in};
-use sheet::{Sheet, state_refusal};
+use depth_table::is_table;
+use pattern::{PatternList, Refusal, check};
+use record::{Record, meaning_of};
+use sheet::Sheet;
 
-// Whether there are 80 + 4 * values + 32 * blocks bytes. No product is formed before it is known to fit a machine word.
+// Whether there are 80 + 4 * values + 32 * blocks bytes, in numbers so wide that none of them wraps.
 fn space_ok(values: usize, blocks: u64, space: usize) -> bool
     ensures { result ≡ leb (space_for values blocks) space }
 {
-    if space < 80 {
-        return false;
-    }
-    let left = space - 80;
-    if left / 4 < values {
-        return false;
-    }
-    let records = (left - 4 * values) / 32;
-    blocks <= records as u64
+    80 + 4 * values as u128 + 32 * u128::from(blocks) <= space as u128
 }
 
 // Whether what is lent to writing is long enough, and the list's count is allowed.
-fn write_lengths_ok(
-    sheet: Sheet,
-    words: usize,
-    count: usize,
-    values: usize,
-    records: usize,
-    space: usize,
-) -> bool
-    ensures { result ≡ write_lengths_ok sheet (whole_patterns sheet.n words) count values records space }
+#[tactic(auto, unfolding(record_file::specs::Writing::write_lengths_ok))]
+fn lengths_ok(sheet: Sheet, list: PatternList, values: usize, records: usize, space: usize) -> bool
+    ensures { let L = list.entry in
+        result ≡ write_lengths_ok sheet (whole_patterns sheet.n (length L.words.now)) L.count values records space }
 {
-    let patterns = whole_patterns(sheet.n as usize, words);
-    if !count_ok(patterns, count) {
-        return false;
-    }
     let blocks = sheet.blocks();
-    if (records as u64) < blocks {
-        return false;
-    }
-    space_ok(values, blocks, space)
+    list.count_ok(sheet.n as usize) && blocks <= records as u64 && space_ok(values, blocks, space)
 }
 
-// The first refusal of what is checked before the records, or 0.
-pub(crate) fn first_refusal(
+// What is refused before the records.
+pub(crate) fn check_sheet(
     sheet: Sheet,
-    words: usize,
-    count: usize,
+    list: PatternList,
     table: &[u8],
     records: usize,
     space: usize,
-) -> u8
-    ensures { result ≡ refusal (write_checks sheet table.now (whole_patterns sheet.n words) count records space) 0 }
+) -> Result<(), Refusal>
+    ensures { let L = list.entry in
+        refusal_in result ≡ refusal (write_checks sheet table.now (whole_patterns sheet.n (length L.words.now)) L.count records space) 0 }
 {
-    let lengths = write_lengths_ok(sheet, words, count, table.len(), records, space);
-    let placed = sheet.placed as u64;
-    let blocks = sheet.blocks();
-    let tables = check(depth_table::is_table(table), 3, 0);
-    let missing = check(placed == blocks, 22, tables);
-    state_refusal(
-        sheet.n,
-        sheet.width,
-        sheet.height,
-        sheet.placed,
-        lengths,
-        missing,
-    )
+    sheet.check_state(lengths_ok(sheet, list, table.len(), records, space))?;
+    check(u64::from(sheet.placed) == sheet.blocks(), Refusal::Missing)?;
+    check(is_table(table), Refusal::Table)
 }
 
-// The refusal of a record, or 0, where the table has so many values; no texture is asked for.
-fn record_refusal(n: usize, list: &[u64], count: usize, values: usize, r: Record) -> u8
-    ensures { result ≡ written_refusal n (patterns_of n list.now) count values r }
+// What is refused of a record, where the table has so many values; no texture is asked for.
+#[tactic(auto, using(crate::proofs::FirstLaws::record_refused, crate::proofs::FirstLaws::record_given))]
+fn check_record(n: usize, list: PatternList, values: usize, r: Record) -> Result<(), Refusal>
+    ensures { let L = list.entry in refusal_in result ≡ written_refusal n (patterns_of n L.words.now) L.count values r }
 {
-    match meaning_of(n, list, count, true, values, r) {
-        Meaning::Listed(_) => 0,
-        Meaning::Contour => 0,
-        Meaning::Refused(number) => number,
-    }
+    meaning_of(n, list, true, values, r).map(|_| ())
 }
 
-// The first refusal of the first m records, or 0.
-pub(crate) fn records_refusal(
+// What is refused of records: the refusal of the first bad one.
+#[tactic(auto, using(crate::proofs::FirstLaws::in_order))]
+pub(crate) fn check_records(
     n: usize,
-    list: &[u64],
-    count: usize,
+    list: PatternList,
     values: usize,
-    m: usize,
     records: &[[i32; 4]],
-) -> u8
-    requires { m ≤ length records.now }
-    ensures { let l = patterns_of n list.now in
-        result ≡ first_to (λ i. written_refusal n l count values (record_at records.now i)) m }
+) -> Result<(), Refusal>
+    ensures { let L = list.entry in
+        let judged : ℕ → ℕ = λ i. written_refusal n (patterns_of n L.words.now) L.count values (record_at records.now i) in
+        refusal_in result ≡ first_to judged (length records.now) }
 {
-    let mut refusal = 0;
-    for i in 0..m {
-        if refusal == 0 {
-            refusal = record_refusal(n, list, count, values, record_in(records[i]));
-        }
+    for r in records {
+        check_record(n, list, values, Record::from(*r))?;
     }
-    refusal
+    Ok(())
 }

@@ -4,4 +4,4 @@
 mod checks;
 mod writing;
 
-pub use writing::{Wrote, write};
+pub use writing::write;

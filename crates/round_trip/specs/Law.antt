@@ -15,11 +15,11 @@ use Rattle.depth_table.specs.Table.{most_values}
 use Rattle.record.specs.Lent.{record_at}
 use Rattle.record_file.specs.Reading.{Aids, lists_ok}
 use Rattle.record_file.specs.Writing.{Source, source_of, space_for, written_refusal, write_answer, write_after}
-use Rattle.record_read.specs.declared.reading.FileBack.{FileBack}
-use Rattle.record_read.specs.Back.{material_for, drawn_on, file_back, samples_back, records_over, records_back, leaving, Lent, reading}
+use Rattle.record_read.specs.Back.{Back, Lent, reading}
+use Rattle.record_read.specs.Back.{material_for, drawn_on, file_back, samples_back, records_over, records_back, leaving}
 
 -- what `read` answers, and leaves of what is lent
-abbrev pub answered : Aids → Lent → List ℕ → FileBack
+abbrev pub answered : Aids → Lent → List ℕ → Back
 answered A L s = file_back (reading A L s)
 
 abbrev pub records_left : Aids → Lent → List ℕ → List (List ℤ)

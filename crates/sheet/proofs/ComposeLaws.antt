@@ -33,7 +33,7 @@ use Rattle.sheet_grid.specs.Neighbours.{neighbours}
 use Rattle.sheet.specs.Place.{next_texture, draw_refusal, place_refusal_by, place_refusal}
 use Rattle.sheet.specs.Compose.{Task, compose_case, chosen_next, chosen_block, composed_next, choice_refusal}
 use Rattle.sheet.specs.declared.Sheet.{Sheet}
-use Rattle.sheet.proofs.StateLaws.{lengths-do, open_none}
+use Rattle.sheet.proofs.StateLaws.{Next, lengths-do, open_none}
 
 -- ---- lengths
 
@@ -113,34 +113,33 @@ module _ (S : Sheet) (T : Task) (s : List ℕ) (o : Open S) (words : T.material.
 
 -- ---- one block: the choice is made, and its record drawn
 
-module _ (w x y : ℕ) (C : Case) (s : List ℕ) where
-  -- the case that the record is drawn for
-  abbrev case : Case
-  case = case_of C.n C.list C.count C.neighbours [] C.table 0 C.texture
+module _ (C : Case) {r : Record} {cost count : ℕ} (e : given (r, cost, count) ≡ choose_answer C) where
+  -- a record that was chosen is not refused
+  pub chosen-accepted : draw_refusal C r ≡ 0
+  chosen-accepted = let m = given-for C e in rw m.1 (chosen-sound C m.0)
 
-  -- a record that was chosen is drawn
+  -- it is drawn
   pub chosen-drawn :
-      {r : Record} {cost count : ℕ} {u : List ℕ} → given (r, cost, count) ≡ choose_answer C
-      → u ≡ lent (draw_refusal case r) (written C.n w x y (prediction_of case r) s) s → u ≡ chosen_block C.n w x y C s
+      (w x y : ℕ) (s : List ℕ) {u : List ℕ} → u ≡ lent (draw_refusal C r) (written C.n w x y (prediction_of C r) s) s
+      → u ≡ chosen_block C.n w x y C s
   unfolding chosen_block
-  chosen-drawn {r} {cost} {count} {u} e q =
-      let m = given-for C e in
-      rw m.0 (rw (m.1, chosen-sound C m.0) at q)
+  chosen-drawn w x y s q = let m = given-for C e in rw m.0 (rw (m.1, chosen-sound C m.0) at q)
 
-  -- a choice that is refused alters nothing
-  pub chosen-never : {k : ℕ} → refused k ≡ choose_answer C → s ≡ chosen_block C.n w x y C s
-  unfolding chosen_block
-  chosen-never {k} e = lent-refused (choose_refusal C) _ s (refused-for C e).1
+-- a choice that is refused alters nothing
+pub chosen-never :
+    (C : Case) (w x y : ℕ) (s : List ℕ) {k : ℕ} → refused k ≡ choose_answer C → s ≡ chosen_block C.n w x y C s
+unfolding chosen_block
+chosen-never C w x y s e = lent-refused (choose_refusal C) _ s (refused-for C e).1
 
 -- the case and the block of the next place, from what the code has in hand
-module _ (S : Sheet) (T : Task) (s : List ℕ) {near own light : List ℕ} {x y : ℕ} (column : x ≡ next_x S) (row : y ≡ next_y S) (bordered : near ≡ neighbours S.n S.width S.placed s) (owned : own ≡ cut S.n S.width (next_x S) (next_y S) T.original) (lit : light ≡ next_texture S T.material.texture) where
+module _ (S : Sheet) (T : Task) (s : List ℕ) {n w x y : ℕ} (at : Next S n w x y) {list near own light : List ℕ} (listed : list ≡ T.material.list) (bordered : near ≡ neighbours S.n S.width S.placed s) (owned : own ≡ cut S.n S.width (next_x S) (next_y S) T.original) (lit : light ≡ next_texture S T.material.texture) where
   abbrev its : Case
-  its = case_of S.n T.material.list T.material.count near own T.material.table T.reach light
+  its = case_of n list T.material.count near own T.material.table T.reach light
 
   case-next : its ≡ compose_case S T s
-  case-next = rw (bordered, owned, lit)
+  case-next = rw (at.size, listed, bordered, owned, lit)
 
   pub choose-next :
-      {a : Answer (Record × ℕ × ℕ)} {u : List ℕ} → a ≡ choose_answer its → u ≡ chosen_block S.n S.width x y its s
+      {a : Answer (Record × ℕ × ℕ)} {u : List ℕ} → a ≡ choose_answer its → u ≡ chosen_block n w x y its s
       → (a ≡ choose_answer (compose_case S T s)) × (u ≡ composed_next S T s)
-  choose-next p q = (p ∙ ap choose_answer case-next, rw (case-next, column, row) at q)
+  choose-next p q = (p ∙ ap choose_answer case-next, rw (case-next, at.size, at.wide, at.column, at.row) at q)

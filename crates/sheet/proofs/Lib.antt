@@ -12,3 +12,6 @@ pub mod ComposedLaws
 pub mod FinishedLaws
 pub mod SideLaws
 pub mod DrawLaws
+pub mod RefusalLaws
+pub mod RowLaws
+pub mod Uncited

@@ -1,11 +1,12 @@
 -- The pattern of a record that is drawn for a case, and what drawing answers and leaves.
-use Prim.Native.Nat.{ℕ, ◌*◌}
-use mathlib.Core.Bool.{true}
+use Prim.Native.Nat.{ℕ, zero, suc, ◌*◌}
+use mathlib.Core.Bool.{Bool, true, not}
 use mathlib.Core.List.{List}
-use mathlib.Core.Path.{◌≡◌, sym, ap, ◌∙◌}
+use mathlib.Core.Path.{◌≡◌, refl, sym, ap, ◌∙◌}
 use mathlib.Core.Logic.{◌⊎◌, ⊎_elim}
 use native.Mathlib.Omega.{arith}
-use borrow.Author.Tests.{eq-eqb, lt-ltb, ltb-true}
+use borrow.Author.Tests.{eq-eqb, ne_eqb, lt-ltb, ltb-true}
+use lib.Dec.{eqb, ltb}
 use lib.IntN.{ℤ}
 use lib.ListN.{length}
 use Rattle.arith.specs.Checks.{Answer, given, refused, lent}
@@ -33,6 +34,14 @@ contour-fits n t = lt-ltb _ _ (bits-lt _ (n * n))
 pub contour-given : (n : ℕ) (t : List ℕ) → size_ok n ≡ true → length t ≡ n * n → contour_answer n t ≡ given (contour_of n t)
 unfolding contour_answer samples_refusal
 contour-given n t size full = rw (size, eq-eqb _ _ full)
+
+-- texture is lent where it is not empty
+not-zero : (k : ℕ) → not (eqb k 0) ≡ ltb 0 k
+not-zero zero = refl
+not-zero (suc k) = rw (ne_eqb (suc k) 0 (λ z. omega arith), lt-ltb 0 (suc k) (omega arith))
+
+pub textured-by : (t : List ℕ) {empty : Bool} → empty ≡ eqb (length t) 0 → not empty ≡ textured t
+textured-by t e = rw e (not-zero (length t))
 
 module _ (C : Case) (r : Record) where
   -- what the record means

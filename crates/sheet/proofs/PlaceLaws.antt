@@ -1,17 +1,23 @@
 -- What `place` answers and leaves, refused or not.
 use Prim.Native.Nat.{ℕ}
-use mathlib.Core.Bool.{Bool}
+use mathlib.Core.Bool.{Bool, true}
 use mathlib.Core.List.{List}
-use mathlib.Core.Path.{◌≡◌, sym, ap, ◌∙◌}
+use mathlib.Core.Path.{◌≡◌, refl, sym, ap, ◌∙◌}
 use lib.ListN.{length}
-use Rattle.arith.specs.Checks.{Answer, refused, given, lent}
+use Rattle.arith.specs.Checks.{refused, given, lent}
 use Rattle.arith.proofs.CheckLaws.{answer-refused, refused-by, given_by, lent-refused}
+use Rattle.std.specs.Prelude.{Ok, Err}
+use Rattle.depth_table.specs.Table.{some_value}
+use Rattle.pattern.specs.declared.refusals.Refusal.{Refusal}
+use Rattle.pattern.specs.declared.refusals.Refusal.TheVariants as variant
+use Rattle.pattern.specs.Refusal.{number_of, checked}
 use Rattle.record.specs.declared.Record.{Record}
 use Rattle.sheet_grid.proofs.SampleLaws.{length-written}
-use Rattle.sheet.specs.State.{after, lengths_ok, open_refusal}
-use Rattle.sheet.specs.Place.{Material, placed_samples, material_refusal, place_refusal_by, place_answer_by, place_after_by}
+use Rattle.sheet.specs.State.{after, lengths_ok, start_refusal}
+use Rattle.sheet.specs.Place.{Material, Fits, placed_samples, material_refusal, place_refusal_by, place_answer_by, place_after_by}
 use Rattle.sheet.specs.declared.Sheet.{Sheet}
-use Rattle.sheet.proofs.StateLaws.{open_kept, open-passed}
+use Rattle.sheet.proofs.StateLaws.{lengths-are}
+use Rattle.sheet.proofs.RefusalLaws.{number_some, state-refused, table-refused, rest-decides, both-passed}
 
 -- placing keeps the number of samples
 pub length-placed : (S : Sheet) (M : Material) (s : List ℕ) (r : Record) → length (placed_samples S M s r) ≡ length s
@@ -35,43 +41,53 @@ module _ (asked : Bool) (S : Sheet) (s : List ℕ) (M : Material) (r : Record) w
   unfolding place_answer_by place_after_by
   place-accepted e = (rw e, rw e)
 
--- a table that is as asked is as another question asks, where both are answered alike
-pub asked-as :
-    (S : Sheet) (s : List ℕ) (M : Material) (r : Record) {a b : Bool} {t : Answer Sheet} {u : List ℕ} → a ≡ b
-    → (t ≡ place_answer_by a S s M r) × (u ≡ place_after_by a S s M r) → (t ≡ place_answer_by b S s M r) × (u ≡ place_after_by b S s M r)
-asked-as S s M r e p = rw e at p
-
 -- ---- check by check
 
-module _ (asked : Bool) (S : Sheet) (s : List ℕ) (M : Material) (r : Record) where
-  abbrev lengths : Bool
-  lengths = lengths_ok S (length s) (length M.list) M.count (length M.texture)
-
-  -- the state or the table is refused
-  pub state-refused :
-      {l : Bool} {k : ℕ} → l ≡ lengths_ok S (length s) (length M.list) M.count (length M.texture)
-      → k ≡ open_refusal S l asked 0 → (k ≡ 0 → ⊥) → (refused k ≡ place_answer_by asked S s M r) × (s ≡ place_after_by asked S s M r)
+module _ (asked : Bool) (S : Sheet) (s : List ℕ) (M : Material) (r : Record) {l : Bool} (measured : l ≡ lengths_ok S (length s) (length M.list) M.count (length M.texture)) where
+  -- the state is refused
+  pub open-refused :
+      (k : Refusal) → number_of k ≡ start_refusal S l 0
+      → (refused (number_of k) ≡ place_answer_by asked S s M r) × (s ≡ place_after_by asked S s M r)
   unfolding place_refusal_by
-  state-refused {l} {k} el e h =
-      let q : k ≡ open_refusal S lengths asked 0 = rw el at e in
-      place-refused asked S s M r (q ∙ sym (open_kept S lengths asked _ (λ z. h (q ∙ z)))) h
+  open-refused k e = place-refused asked S s M r (state-refused S _ asked _ measured refl k e) (number_some k)
 
-  -- past that, the record decides
-  module _ (none : open_refusal S (lengths_ok S (length s) (length M.list) M.count (length M.texture)) asked 0 ≡ 0) where
-    drawing-decides : place_refusal_by asked S (length s) M r ≡ material_refusal S M r
+  module _ (going : 0 ≡ start_refusal S l 0) where
+    -- the table is refused
+    pub asked-refused :
+        {k : Refusal} → Err k ≡ checked asked variant.Table
+        → (refused (number_of k) ≡ place_answer_by asked S s M r) × (s ≡ place_after_by asked S s M r)
     unfolding place_refusal_by
-    drawing-decides = open-passed S lengths asked _ none
+    asked-refused {k} e = place-refused asked S s M r (table-refused S _ asked _ measured refl going e) (number_some k)
 
-    -- k is what drawing answers, and u what it leaves
-    module _ {k : ℕ} {u : List ℕ} (e : k ≡ material_refusal S M r) (left : u ≡ lent (material_refusal S M r) (placed_samples S M s r) s) where
-      after-drawing : u ≡ place_after_by asked S s M r
-      unfolding place_after_by
-      after-drawing = rw drawing-decides left
+    module _ (sound : Ok tt ≡ checked asked variant.Table) where
+      -- past that, the record decides
+      drawing-decides : place_refusal_by asked S (length s) M r ≡ material_refusal S M r
+      unfolding place_refusal_by
+      drawing-decides = rest-decides S _ asked _ measured refl going sound
 
-      pub drawing-refused : (k ≡ 0 → ⊥) → (refused k ≡ place_answer_by asked S s M r) × (u ≡ place_after_by asked S s M r)
-      unfolding place_answer_by
-      drawing-refused h = (refused-by (after 1 S) (e ∙ sym drawing-decides) h, after-drawing)
+      pub drawing-fits : (asked ≡ true → some_value M.table ≡ true) → Fits S M (length s)
+      drawing-fits valued =
+          let o = both-passed S _ asked 0 measured refl going sound in
+          record {
+            valued = valued o.sound;
+            is_open = o.is;
+            lengths = lengths-are S (length s) (length M.list) M.count (length M.texture) o.right;
+          }
 
-      pub drawing-done : {T : Sheet} → k ≡ 0 → T ≡ after 1 S → (given T ≡ place_answer_by asked S s M r) × (u ≡ place_after_by asked S s M r)
-      unfolding place_answer_by
-      drawing-done z p = (given_by (e ∙ sym drawing-decides) z p, after-drawing)
+      -- k is what drawing answers, and u what it leaves
+      module _ {u : List ℕ} (left : u ≡ lent (material_refusal S M r) (placed_samples S M s r) s) where
+        after-drawing : u ≡ place_after_by asked S s M r
+        unfolding place_after_by
+        after-drawing = rw drawing-decides left
+
+        pub drawing-refused :
+            (k : Refusal) → number_of k ≡ material_refusal S M r
+            → (refused (number_of k) ≡ place_answer_by asked S s M r) × (u ≡ place_after_by asked S s M r)
+        unfolding place_answer_by
+        drawing-refused k e = (refused-by (after 1 S) (e ∙ sym drawing-decides) (number_some k), after-drawing)
+
+        pub drawing-done :
+            {T : Sheet} → 0 ≡ material_refusal S M r → T ≡ after 1 S
+            → (given T ≡ place_answer_by asked S s M r) × (u ≡ place_after_by asked S s M r)
+        unfolding place_answer_by
+        drawing-done e p = (given_by (e ∙ sym drawing-decides) refl p, after-drawing)

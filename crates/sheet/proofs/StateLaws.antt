@@ -1,5 +1,5 @@
 -- What holds of a state that has a block to place, and of one that the checks pass.
-use Prim.Native.Nat.{ℕ, ◌≤◌, ◌<◌}
+use Prim.Native.Nat.{ℕ, ◌+◌, ◌*◌, ◌≤◌, ◌<◌}
 use mathlib.Core.Bool.{Bool, true}
 use mathlib.Core.List.{List, [], ◌∷◌, ◌++◌}
 use mathlib.Core.Logic.{⊎_elim}
@@ -29,9 +29,16 @@ area-few S o = mul-le-mul {n₁ = S.width} {m₁ = S.height} {n₂ = longest} {m
 pub next-inside : (S : Sheet) {samples : ℕ} → Open S → samples ≡ area S → Inside S.n S.width samples (next_x S) (next_y S)
 next-inside S o e = rw e (block_inside S.n S.width S.height S.placed (omega (arith, o.low)) o.high o.wide o.missing)
 
-pub inside-at :
-    (S : Sheet) {samples x y : ℕ} → Open S → x ≡ next_x S → y ≡ next_y S → samples ≡ area S → Inside S.n S.width samples x y
-inside-at S o column row e = rw (column, row) (next-inside S o e)
+-- where the next block lies, as the code has it
+pub record Next (S : Sheet) (n w x y : ℕ) : Type 0 where
+  pub is_open : Open S
+  pub size : n ≡ S.n
+  pub wide : w ≡ S.width
+  pub column : x ≡ next_x S
+  pub row : y ≡ next_y S
+
+pub down-at : (S : Sheet) {n w x y samples : ℕ} → Next S n w x y → samples ≡ area S → (y + n) * w ≤ samples
+down-at S at e = rw (at.size, at.wide, at.row) (next-inside S at.is_open e).down
 
 -- texture that is lent is as large as the sheet
 pub texture-whole :
@@ -115,11 +122,6 @@ module _ (S : Sheet) (lengths asked : Bool) where
   abbrev checks : List (Bool × ℕ)
   checks = start_checks S.n S.width S.height S.placed lengths ++ ((asked, 3) ∷ [])
 
-  -- a refusal of the state or the table stays, whatever is checked after it
-  pub open_kept : (rest : ℕ) → (open_refusal S lengths asked 0 ≡ 0 → ⊥) → open_refusal S lengths asked rest ≡ open_refusal S lengths asked 0
-  unfolding start_refusal_by
-  open_kept rest h = kept checks rest h
-
   -- where there is none
   pub record Opened : Type 0 where
     pub right : lengths ≡ true
@@ -139,8 +141,3 @@ module _ (S : Sheet) (lengths asked : Bool) where
   open_none rest o right sound =
       let few = le-leb S.placed (blocks_of S) (omega (arith, o.missing)) in
       passes checks rest (o.size, (right, (o.sides, (few, (lt-ltb S.placed (blocks_of S) o.missing, (sound, tt))))))
-
-  -- then what is checked after it decides
-  pub open-passed : (rest : ℕ) → open_refusal S lengths asked 0 ≡ 0 → open_refusal S lengths asked rest ≡ rest
-  unfolding start_refusal_by
-  open-passed rest h = passes checks rest (holds checks 0 h).0

@@ -11,9 +11,8 @@ use Rattle.choice.specs.Search.{chosen}
 use Rattle.choice.specs.Record.{prediction_of}
 use Rattle.sheet_grid.specs.Samples.{written, cut}
 use Rattle.sheet.specs.State.{after, area, blocks_of, finished, next_x, next_y, lengths_ok, open_refusal, Open, Lengths}
-use Rattle.sheet.specs.Place.{Material, material_of, next_case, placed_samples}
+use Rattle.sheet.specs.Place.{Material, next_case, placed_samples}
 use Rattle.pattern.specs.Answer.{textured}
-use Rattle.pattern.specs.Words.{patterns_of}
 use Rattle.sheet.specs.declared.Sheet.{Sheet}
 
 -- the number of blocks still missing
@@ -28,10 +27,6 @@ pub record Task : Type 0 where
 
 abbrev pub task_of : Material → List ℕ → ℕ → Task
 task_of material original reach = record { material = material; original = original; reach = reach }
-
--- the same from what is lent to a call: the words of the list, its count, table, texture, original and reach
-abbrev pub lent_task : Sheet → List ℕ → ℕ → List ℕ → List ℕ → List ℕ → ℕ → Task
-lent_task S words count table texture original reach = task_of (material_of (patterns_of S.n words) count table texture) original reach
 
 -- the next block as a case of the choice: its neighbours from the samples s, its own part of original and texture
 abbrev pub compose_case : Sheet → Task → List ℕ → Case

@@ -1,11 +1,10 @@
 -- Document 01, "Sheet": placing a record.
-use Rattle.std.specs.Prelude.{ℕ, zero, suc, ◌*◌, ◌<◌, ◌≡◌, Bool, true, cond, List, [], ◌⊎◌, ℤ, length}
+use Rattle.std.specs.Prelude.{ℕ, zero, suc, ◌*◌, ◌≡◌, Bool, true, cond, List, [], ◌⊎◌, ℤ, length}
 use Rattle.arith.specs.Checks.{Answer, answer, lent}
 use Rattle.depth_table.specs.Offset.{offsets_ok, offsets_usable}
 use Rattle.depth_table.specs.Table.{table_ok, some_value}
-use Rattle.pattern.specs.Size.{size_ok, word_ok}
+use Rattle.pattern.specs.Size.{word_ok}
 use Rattle.pattern.specs.Answer.{textured}
-use Rattle.sheet_grid.specs.Grid.{Inside}
 use Rattle.choice.specs.Case.{Case, case_of}
 use Rattle.choice.specs.Record.{prediction_of}
 use Rattle.record.specs.declared.Record.{Record}
@@ -90,12 +89,6 @@ placed_in_turn S M records s (suc k) = placed_samples (after k S) M (placed_in_t
 
 -- ---- what the steps are given
 
--- a block of an allowed size that lies inside the samples, with its neighbours
-pub record Site (n w samples x y neighbours : ℕ) : Type 0 where
-  pub size : size_ok n ≡ true
-  pub inside : Inside n w samples x y
-  pub bordered : neighbours ≡ 4 * n
-
 -- a pattern of the block, a table that has a value, and two offsets that it can use
 pub record Drawable (n w : ℕ) (t : List ℕ) (off0 off1 : ℤ) : Type 0 where
   pub inside : word_ok n w ≡ true
@@ -106,11 +99,6 @@ pub record Drawable (n w : ℕ) (t : List ℕ) (off0 off1 : ℤ) : Type 0 where
 -- a block's own texture: none, or as many samples as it has
 abbrev pub Lit : ℕ → ℕ → Type 0
 Lit n texture = (texture ≡ 0) ⊎ (texture ≡ n * n)
-
--- the block at (x, y) lies inside the sheet's texture, if any is lent
-pub record BlockLit (n w texture x y : ℕ) : Type 0 where
-  pub size : size_ok n ≡ true
-  pub inside : 0 < texture → Inside n w texture x y
 
 -- a state that has a block to place, what is lent fits it, and the table has a value
 pub record Fits (S : Sheet) (M : Material) (samples : ℕ) : Type 0 where

@@ -1,22 +1,21 @@
--- Document 01's number and values for each case of the code's answers.
+-- What a call is lent, and what it answers.
 use Rattle.std.specs.Prelude.{ℕ}
-use Rattle.arith.specs.Checks.{Answer, refused, given}
+use Rattle.pattern.specs.Words.{patterns_of}
+use Rattle.sheet.specs.Place.{Material, material_of}
+use Rattle.sheet.specs.Compose.{Task, task_of}
 use Rattle.sheet.specs.declared.Sheet.{Sheet}
-use Rattle.sheet.specs.declared.Made.{Made}
-use Rattle.sheet.specs.declared.Made.TheVariants as made
-use Rattle.sheet.specs.declared.Placed.{Placed}
-use Rattle.sheet.specs.declared.Placed.TheVariants as placed
+use Rattle.sheet.specs.declared.PlaceInput.{PlaceInput}
+use Rattle.sheet.specs.declared.ComposeInput.{ComposeInput}
 use Rattle.sheet.specs.declared.Composed.{Composed}
-use Rattle.sheet.specs.declared.Composed.TheVariants as composed
 
-abbrev pub new_told : Made → Answer Sheet
-new_told (made.New S) = given S
-new_told (made.Refused number) = refused number
+-- what records of blocks of size n are placed with: the list's patterns, of its words
+abbrev pub material_in : ℕ → PlaceInput → Material
+material_in n I = material_of (patterns_of n I.list.words.now) I.list.count I.table.now I.texture.now
 
-abbrev pub place_told : Placed → Answer Sheet
-place_told (placed.Next S) = given S
-place_told (placed.Refused number) = refused number
+-- what blocks of size n are composed from
+abbrev pub task_in : ℕ → ComposeInput → Task
+task_in n I = task_of (material_in n I.place) I.original.now I.reach
 
-abbrev pub compose_told : Composed → Answer (Sheet × ℕ)
-compose_told (composed.Finished S written) = given (S, written)
-compose_told (composed.Refused number) = refused number
+-- the state and the number of records that the code answers
+abbrev pub composed_values : Composed → Sheet × ℕ
+composed_values c = (c.sheet, c.written)

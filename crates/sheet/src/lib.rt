@@ -3,14 +3,22 @@
 
 mod composing;
 mod drawing;
-mod judged;
-mod lent;
 mod neighbours;
 mod placing;
 mod samples;
+mod spot;
 mod state;
 
-pub use judged::{LONGEST, MOST_BLOCKS, MOST_SAMPLES, new_refusal, state_refusal};
+use pattern::PatternList;
+pub use state::check_sides;
+
+// The greatest width and height.
+pub const LONGEST: usize = 128;
+
+// The most samples, and the most blocks, so records, that a sheet has.
+pub const MOST_SAMPLES: usize = LONGEST * LONGEST;
+
+pub const MOST_BLOCKS: usize = 1024;
 
 // The state of a sheet of width by height samples in blocks of n by n: how many of its blocks are placed.
 #[derive(Clone, Copy)]
@@ -21,23 +29,25 @@ pub struct Sheet {
     pub placed: u32,
 }
 
-// What `Sheet::new` answers: the state of an empty sheet, or the number of its refusal.
+// What records are placed with: the wedgelet list, the depth table, and texture of the whole sheet; an empty texture is none.
 #[derive(Clone, Copy)]
-pub enum Made {
-    New(Sheet),
-    Refused(u8),
+pub struct PlaceInput<'a> {
+    pub list: PatternList<'a>,
+    pub table: &'a [u8],
+    pub texture: &'a [u8],
 }
 
-// What `Sheet::place` and `Sheet::place_from_values` answer: the next state, or the number of the refusal.
+// What a sheet is composed from: what records are placed with, the original samples of the whole sheet, and the reach.
 #[derive(Clone, Copy)]
-pub enum Placed {
-    Next(Sheet),
-    Refused(u8),
+pub struct ComposeInput<'a> {
+    pub place: PlaceInput<'a>,
+    pub original: &'a [u8],
+    pub reach: u32,
 }
 
-// What `Sheet::compose` answers: the finished state and the number of records written, or the number of its refusal.
+// The finished state, and the number of records written.
 #[derive(Clone, Copy)]
-pub enum Composed {
-    Finished(Sheet, usize),
-    Refused(u8),
+pub struct Composed {
+    pub sheet: Sheet,
+    pub written: usize,
 }

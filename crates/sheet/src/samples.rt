@@ -1,15 +1,14 @@
 // One block of a sheet's samples: cut out, and put.
-ghost use Rattle.std.specs.Prelude.{◌≡◌, true, ◌+◌, ◌*◌, ◌≤◌, length, get_or, take};
+ghost use Rattle.std.specs.Prelude.{◌≡◌, ◌+◌, ◌*◌, ◌<◌, ◌≤◌, cond, ltb, length, get_or, take, IsOkAnd};
 ghost use Rattle.arith.specs.Lists.{upto};
 ghost use Rattle.block.specs.Block as rows;
 ghost use Rattle.block.specs.Block.{capacity};
-ghost use Rattle.pattern.specs.Size.{size_ok};
-ghost use Rattle.sheet_grid.specs.Grid.{Inside};
 ghost use Rattle.sheet_grid.specs.Samples as grid;
-ghost use Rattle.sheet_grid.specs.Samples.{written, cut_block, with_row};
+ghost use Rattle.sheet_grid.specs.Samples.{written, cut_block};
 
-use block::{Block, CAPACITY};
-use pattern::SAMPLES;
+use crate::spot::Spot;
+use block::{Block, CAPACITY, write_block};
+use pattern::{Refusal, SAMPLES};
 
 // The n samples from a place on, as a row of a block.
 fn row_at(samples: &[u8], n: usize, at: usize) -> [u8; CAPACITY]
@@ -17,58 +16,68 @@ fn row_at(samples: &[u8], n: usize, at: usize) -> [u8; CAPACITY]
     ensures { result ≡ upto capacity n (λ i. get_or samples.now (at + i) 0) 0 }
 {
     let mut row = [0u8; CAPACITY];
-    for i in 0..n {
-        row[i] = samples[at + i];
-    }
+    row[..n].copy_from_slice(&samples[at..at + n]);
     row
 }
 
-// The block at (x, y) of a sheet of the given width.
-fn cut(samples: &[u8], width: usize, n: usize, x: usize, y: usize) -> Block
-    requires { Inside n width (length samples.now) x y }
-    ensures { result ≡ cut_block n width x y samples.now }
-{
-    let mut b = [[0u8; CAPACITY]; CAPACITY];
-    for r in 0..n {
-        b[r] = row_at(samples, n, (y + r) * width + x);
+impl Spot {
+    // The block of a sheet's samples.
+    fn cut(self, samples: &[u8]) -> Block
+        requires { (self.y + self.n) * self.width ≤ length samples.now }
+        ensures { result ≡ cut_block self.n self.width self.x self.y samples.now }
+    {
+        let n = self.n;
+        let mut b = [[0u8; CAPACITY]; CAPACITY];
+        for (r, row) in b[..n].iter_mut().enumerate() {
+            *row = row_at(samples, n, (self.y + r) * self.width + self.x);
+        }
+        b
     }
-    b
-}
 
-// Its samples row by row, at the front of an array.
-pub(crate) fn cut_samples(
-    samples: &[u8],
-    width: usize,
-    n: usize,
-    x: usize,
-    y: usize,
-) -> [u8; SAMPLES]
-    requires { (size_ok n ≡ true) × (Inside n width (length samples.now) x y) }
-    ensures { take (n * n) result ≡ grid.cut n width x y samples.now }
-{
-    let b = cut(samples, width, n, x, y);
-    let count = n * n;
-    let mut own = [0u8; SAMPLES];
-    block::write_block(n, b, &mut own[..count]);
-    own
-}
-
-// Puts the first n samples of a row from a place on.
-fn put_row(samples: &mut [u8], n: usize, at: usize, row: [u8; CAPACITY])
-    requires { (n ≤ capacity) × (at + n ≤ length samples.old) }
-    ensures { samples.new ≡ with_row n at row samples.old }
-{
-    for i in 0..n {
-        samples[at + i] = row[i];
+    // Its samples row by row, at the front of an array, which has room for those of the greatest block: the library has no heap.
+    pub(crate) fn cut_samples(self, samples: &[u8]) -> Result<[u8; SAMPLES], Refusal>
+        requires { (self.y + self.n) * self.width ≤ length samples.now }
+        ensures { IsOkAnd result (λ own. take (self.n * self.n) own ≡ grid.cut self.n self.width self.x self.y samples.now) }
+    {
+        let mut own = [0u8; SAMPLES];
+        write_block(self.n, self.cut(samples), &mut own[..self.n * self.n])?;
+        Ok(own)
     }
-}
 
-// Puts a block at (x, y) of a sheet of the given width.
-pub(crate) fn put(samples: &mut [u8], width: usize, n: usize, x: usize, y: usize, b: Block)
-    requires { Inside n width (length samples.old) x y }
-    ensures { samples.new ≡ written n width x y (rows.samples_of n b) samples.old }
-{
-    for r in 0..n {
-        put_row(samples, n, (y + r) * width + x, b[r]);
+    // The number of samples of the block's own texture: as many as the block has, and 0 where no texture is lent. It stands beside the
+    // array of `light`, since a slice of that array cannot leave the function that holds it.
+    pub(crate) fn lent_part(self, texture: &[u8]) -> usize
+        ensures { result ≡ cond (ltb 0 (length texture.now)) (self.n * self.n) 0 }
+    {
+        if texture.is_empty() {
+            0
+        } else {
+            self.n * self.n
+        }
+    }
+
+    // The texture of the block, at the front of an array; all 0 where none is lent.
+    pub(crate) fn light(self, texture: &[u8]) -> Result<[u8; SAMPLES], Refusal>
+        requires { 0 < length texture.now → (self.y + self.n) * self.width ≤ length texture.now }
+        ensures { IsOkAnd result (λ light.
+            0 < length texture.now → take (self.n * self.n) light ≡ grid.cut self.n self.width self.x self.y texture.now) }
+    {
+        if texture.is_empty() {
+            Ok([0u8; SAMPLES])
+        } else {
+            self.cut_samples(texture)
+        }
+    }
+
+    // Puts a block.
+    pub(crate) fn put(self, samples: &mut [u8], b: Block)
+        requires { (self.y + self.n) * self.width ≤ length samples.old }
+        ensures { samples.new ≡ written self.n self.width self.x self.y (rows.samples_of self.n b) samples.old }
+    {
+        let n = self.n;
+        for (r, row) in b[..n].iter().enumerate() {
+            let at = (self.y + r) * self.width + self.x;
+            samples[at..at + n].copy_from_slice(&row[..n]);
+        }
     }
 }

@@ -1,22 +1,46 @@
-// The state of a sheet, and what is checked of it.
-ghost use Rattle.std.specs.Prelude.{◌≡◌};
-ghost use Rattle.pattern.specs.Words.{whole_patterns};
-ghost use Rattle.sheet.specs.State.{lengths_ok, blocks_of, new_answer, start_refusal, next_x, next_y, Open};
-ghost use Rattle.sheet.specs.Told.{new_told};
+// The state of a sheet, and what is checked of it. A u32 becomes a usize by `as`: std has no `From` between them.
+ghost use Rattle.std.specs.Prelude.{◌≡◌, ◌<◌, length};
+ghost use Rattle.pattern.specs.Refusal.{refusal_in, told};
+ghost use Rattle.sheet_grid.specs.Grid.{side_ok};
+ghost use Rattle.sheet.specs.Checks.{sides_ok_by, new_refusal, state_refusal_by};
+ghost use Rattle.sheet.specs.State.{area, blocks_of, lengths_ok, new_answer, next_x, next_y, start_refusal, Open};
+ghost use Rattle.sheet.specs.Told.{material_in};
 
-use crate::{Made, Sheet};
-use pattern::whole_patterns;
+use crate::spot::Spot;
+use crate::{LONGEST, PlaceInput, Sheet};
+use pattern::{Refusal, check, size_ok, texture_ok};
+
+// Whether a width or a height is a multiple of n, n to `LONGEST`.
+fn side_ok(n: u32, side: u32) -> bool
+    ensures { result ≡ side_ok n side }
+{
+    n <= side && side as usize <= LONGEST && side.is_multiple_of(n)
+}
+
+// Whether both sides are allowed.
+fn sides_ok(n: u32, width: u32, height: u32) -> bool
+    ensures { result ≡ sides_ok_by n width height }
+{
+    side_ok(n, width) && side_ok(n, height)
+}
+
+// Refuses a size, 1, and sides, 8, that are not allowed.
+#[tactic(auto, unfolding(crate::specs::Checks::new_refusal))]
+pub fn check_sides(n: u32, width: u32, height: u32) -> Result<(), Refusal>
+    ensures { refusal_in result ≡ new_refusal n width height }
+{
+    check(size_ok(n as usize), Refusal::Size)?;
+    check(sides_ok(n, width, height), Refusal::Sides)
+}
 
 impl Sheet {
     // The state of an empty sheet, or refusal 1 or 8.
-    pub fn new(n: u32, width: u32, height: u32) -> Made
-        ensures { new_told result ≡ new_answer n width height }
+    #[tactic(auto, unfolding(crate::specs::State::new_answer))]
+    pub fn new(n: u32, width: u32, height: u32) -> Result<Sheet, Refusal>
+        ensures { told (λ S. S) result ≡ new_answer n width height }
     {
-        let refusal = crate::judged::new_refusal(n, width, height);
-        if refusal != 0 {
-            return Made::Refused(refusal);
-        }
-        Made::New(Sheet {
+        check_sides(n, width, height)?;
+        Ok(Sheet {
             n,
             width,
             height,
@@ -24,55 +48,68 @@ impl Sheet {
         })
     }
 
+    // The number of its samples.
+    pub(crate) fn area(self) -> usize
+        ensures { result ≡ area self }
+    {
+        self.width as usize * self.height as usize
+    }
+
     // The number of its blocks, 0 where n is 0.
     pub fn blocks(self) -> u64
         ensures { result ≡ blocks_of self }
     {
-        crate::judged::blocks(self.n, self.width, self.height)
+        if self.n == 0 {
+            return 0;
+        }
+        u64::from(self.width / self.n) * u64::from(self.height / self.n)
     }
 
-    // The number of whole patterns in so many lent words.
-    pub(crate) fn patterns_lent(self, words: usize) -> usize
-        ensures { result ≡ whole_patterns self.n words }
+    // Whether the lent samples and what records are placed with fit the sheet.
+    #[tactic(auto, unfolding(crate::specs::Checks::lengths_ok_by))]
+    pub(crate) fn lengths_ok(self, samples: usize, input: PlaceInput) -> bool
+        ensures { let M = material_in self.n input.entry in
+            result ≡ lengths_ok self samples (length M.list) M.count (length M.texture) }
     {
-        whole_patterns(self.n as usize, words)
+        let area = self.area();
+        samples == area
+            && texture_ok(input.texture.len(), area)
+            && input.list.count_ok(self.n as usize)
     }
 
-    // Whether the lent samples, patterns, count and texture fit the sheet.
-    pub(crate) fn lengths_ok(
-        self,
-        samples: usize,
-        patterns: usize,
-        count: usize,
-        texture: usize,
-    ) -> bool
-        ensures { result ≡ lengths_ok self samples patterns count texture }
+    // What is refused of the state, 1, 2, 8 or 23, with the lengths of what is lent judged.
+    pub fn check_state(self, lengths: bool) -> Result<(), Refusal>
+        ensures { refusal_in result ≡ state_refusal_by self.n self.width self.height self.placed lengths 0 }
     {
-        crate::lent::lengths_ok(self.width, self.height, samples, patterns, count, texture)
+        check(size_ok(self.n as usize), Refusal::Size)?;
+        check(lengths, Refusal::Length)?;
+        check(sides_ok(self.n, self.width, self.height), Refusal::Sides)?;
+        check(u64::from(self.placed) <= self.blocks(), Refusal::Placed)
     }
 
-    // The refusal of a state that is to have a block to place, with the lengths judged, or what the checks after it say.
-    pub(crate) fn open_refusal(self, lengths: bool, rest: u8) -> u8
-        ensures { result ≡ start_refusal self lengths rest }
+    // What is refused of a state that is to have a block to place: also 20, where all are placed.
+    #[tactic(auto, using(crate::proofs::RefusalLaws::state_kept, crate::proofs::RefusalLaws::state_passed))]
+    pub(crate) fn check_open(self, lengths: bool) -> Result<(), Refusal>
+        ensures { refusal_in result ≡ start_refusal self lengths 0 }
     {
-        crate::judged::open_refusal(self.n, self.width, self.height, self.placed, lengths, rest)
+        self.check_state(lengths)?;
+        check(u64::from(self.placed) < self.blocks(), Refusal::Full)
     }
 
-    // The column of the first sample of the next block.
-    pub(crate) fn next_x(self) -> usize
+    // Where the next block lies.
+    pub(crate) fn next_spot(self) -> Spot
         requires { Open self }
-        ensures { result ≡ next_x self }
+        ensures size { result.n ≡ self.n }
+        ensures wide { result.width ≡ self.width }
+        ensures column { result.x ≡ next_x self }
+        ensures row { result.y ≡ next_y self }
     {
         let across = self.width / self.n;
-        (self.placed % across * self.n) as usize
-    }
-
-    // The row of that sample.
-    pub(crate) fn next_y(self) -> usize
-        requires { Open self }
-        ensures { result ≡ next_y self }
-    {
-        let across = self.width / self.n;
-        (self.placed / across * self.n) as usize
+        Spot {
+            n: self.n as usize,
+            width: self.width as usize,
+            x: (self.placed % across * self.n) as usize,
+            y: (self.placed / across * self.n) as usize,
+        }
     }
 }

@@ -3,11 +3,12 @@
 
 ghost use Rattle.std.specs.Prelude.{◌≤◌, length, IfOk};
 
-use show_text::{FILE_BYTES, Shown, TEXT_BYTES};
+use show_text::{FILE_BYTES, TEXT_BYTES};
 use std::io;
 use std::io::Read;
 
-// Reads until the slice is full or the input ends; the number of bytes read.
+// Reads until the slice is full or the input ends; the number of bytes read. A loop, since std fills a slice only where the input has as
+// many bytes.
 fn read_full(input: &mut impl Read, buf: &mut [u8]) -> io::Result<usize>
     ensures { IfOk result (λ n. n ≤ length buf.new) }
 {
@@ -27,9 +28,8 @@ fn main(rt: HostRuntime) -> io::Result<()> {
     let mut file = [0u8; FILE_BYTES];
     let read = read_full(&mut rt.reader(), &mut file)?;
     let mut text = [0u8; TEXT_BYTES];
-    let shown = show_text::show_text(&file[..read], &mut text);
-    match shown {
-        Shown::Length(length) => rt.write_all(&text[..length]),
-        Shown::Refused(_) => Ok(()),
+    match show_text::show_text(&file[..read], &mut text) {
+        Ok(length) => rt.write_all(&text[..length]),
+        Err(_) => Ok(()),
     }
 }

@@ -1,14 +1,18 @@
 -- What `show` reads a file with: the size that the file names, and the list for it.
 use Prim.Native.Nat.{ℕ, ◌*◌, ◌≤◌}
 use mathlib.Core.Path.{◌≡◌, refl, sym, ◌∙◌, ap, ap₂}
-use mathlib.Core.Bool.{Bool, true, false, cond, ◌||◌}
-use mathlib.Core.List.{List, [], ◌++◌}
+use mathlib.Core.Bool.{Bool, true, false, ◌||◌}
+use mathlib.Core.List.{List, ◌++◌}
 use native.Mathlib.Nat.{le_trans}
 use native.Mathlib.Omega.{arith}
 use borrow.Author.Tests.{le-leb}
 use lib.Dec.{eqb}
 use lib.ListN.{length, take, drop, length-append}
 use lib.Seq.{take_at}
+use Rattle.std.specs.Result.{result_unwrap_or}
+use Rattle.std.proofs.Common.{Result, Ok, Err}
+use Rattle.pattern.specs.declared.refusals.Refusal.{Refusal}
+use Rattle.pattern.specs.Refusal.{number_of, told}
 use Rattle.arith.specs.Checks.{refused, given}
 use Rattle.arith.proofs.CheckLaws.{given-means, refused-means}
 use Rattle.arith.proofs.Bools.{clash}
@@ -18,38 +22,10 @@ use Rattle.pattern.proofs.WordLaws.{length-words}
 use Rattle.wedgelet.specs.Wedgelet.{wedgelet_list}
 use Rattle.wedgelet.specs.Answer.{needed_words, most_words, list_refusal, list_answer, list_after}
 use Rattle.wedgelet.proofs.AnswerLaws.{words-enough}
-use Rattle.record_text.specs.Parsed.{bad_form, found, exactly}
-use Rattle.record_text.specs.declared.fields.SizeFields.{SizeFields}
-use Rattle.record_text.specs.Line.{size_title, size_line}
-use Rattle.record_file.specs.Reading.{aids_of}
-use Rattle.show_text.specs.Showing.{size_in, aids_alone, aids_for}
+use Rattle.show_text.specs.Showing.{aids_alone, aids_for}
 use Rattle.show_text.specs.Steps.{Listing}
 
--- ---- the size in a file, by the forms of lines 1 and 2
-
-module _ (s : List ℕ) where
-  pub size-no-title : exactly size_title s ≡ bad_form → 0 ≡ size_in s
-  unfolding size_in
-  size-no-title e = rw e
-
-  pub size-no-line : {t : List ℕ} → exactly size_title s ≡ found tt t → size_line t ≡ bad_form → 0 ≡ size_in s
-  unfolding size_in
-  size-no-line e q = rw (e, q)
-
-  pub size-found : {t u : List ℕ} {z : SizeFields} → exactly size_title s ≡ found tt t → size_line t ≡ found z u → z.n ≡ size_in s
-  unfolding size_in
-  size-found e q = rw (e, q)
-
 -- ---- the list
-
--- what is lent to reading, list by list
-pub alone :
-    (n : ℕ) (words : List ℕ) (count : ℕ) {list4 list8 list16 : List ℕ} {count4 count8 count16 : ℕ}
-    → list4 ≡ cond (eqb n 4) words [] → count4 ≡ cond (eqb n 4) count 0
-    → list8 ≡ cond (eqb n 8) words [] → count8 ≡ cond (eqb n 8) count 0
-    → list16 ≡ cond (eqb n 16) words [] → count16 ≡ cond (eqb n 16) count 0
-    → aids_of list4 count4 list8 count8 list16 count16 [] ≡ aids_alone n words count
-alone n words count a b c d e f = rw (a, b, c, d, e, f)
 
 neither-of : (a b : Bool) → a || b ≡ false → (a ≡ false) × (b ≡ false)
 neither-of true b e = clash e
@@ -57,7 +33,7 @@ neither-of false b e = (refl, e)
 
 module _ (n : ℕ) (old new : List ℕ) (enough : most_words ≤ length old) (after : new ≡ list_after n old) where
   -- `wedgelets` counted the patterns
-  pub list-built : (count : ℕ) → given count ≡ list_answer n old → Listing n new count
+  list-built : (count : ℕ) → given count ≡ list_answer n old → Listing n new count
   unfolding list_answer list_after aids_for
   list-built count e =
       let L = wedgelet_list n in
@@ -73,7 +49,7 @@ module _ (n : ℕ) (old new : List ℕ) (enough : most_words ≤ length old) (af
       }
 
   -- or refused, which is the size's fault
-  pub list-refused : (number : ℕ) → refused number ≡ list_answer n old → Listing n new 0
+  list-refused : (number : ℕ) → refused number ≡ list_answer n old → Listing n new 0
   unfolding list_answer list_refusal aids_for
   list-refused number e =
       let g = refused-means (list_refusal n (length old)) number (length (wedgelet_list n)) (sym e) in
@@ -86,3 +62,8 @@ module _ (n : ℕ) (old new : List ℕ) (enough : most_words ≤ length old) (af
           let a = neither-of (eqb n 4) (eqb n 8 || eqb n 16) e in
           let b = neither-of (eqb n 8) (eqb n 16) a.1 in
           rw (a.0, b.0, b.1)
+
+  -- so the list for the size is there, with none where it was refused
+  pub list-lent : (r : Result ℕ Refusal) → told (λ count. count) r ≡ list_answer n old → Listing n new (result_unwrap_or r 0)
+  list-lent (Ok count) e = list-built count e
+  list-lent (Err q) e = list-refused (number_of q) e

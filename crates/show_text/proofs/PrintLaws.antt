@@ -8,7 +8,7 @@ use native.Mathlib.Omega.{arith}
 use borrow.Author.Tests.{lt-ltb}
 use lib.ListN.{length, get_or, length-append}
 use Rattle.arith.specs.Lists.{list_of}
-use Rattle.record_text.specs.declared.cursor.Cursor.{Cursor}
+use Rattle.record_print.specs.declared.cursor.Cursor.{Cursor}
 use Rattle.record_text.specs.Numeral.{numeral_end}
 use Rattle.record_text.specs.Field.{number_text}
 use Rattle.record_text.specs.Line.{depth_title}
@@ -20,7 +20,6 @@ use Rattle.record_print.proofs.PutLaws.{put_written, printed-written}
 use Rattle.record_print.proofs.WriteSteps.{written-length, written_then}
 use Rattle.sheet_grid.specs.Grid.{most_samples}
 use Rattle.show_text.specs.Printed.{sides_title, refusal_title, pair_text, byte_after, sample_text, rows_text, sides_text, sheet_text, refusal_text}
-use Rattle.show_text.specs.Showing.{}
 
 -- ---- two numbers on a line
 

@@ -89,5 +89,5 @@ text-short A samples records s = go (read_file A samples records s) refl
     go (refused_at n k) e = omega (arith, refusal-short n k)
     go (read F t) e =
         let f = file-fits A samples records F s t e in
-        let small = in-turn-bytes (empty_sheet F) (material_in A F) (in_turn F.records) (replicate (area (empty_sheet F)) 0) _ f.sound (zeros-bytes (area (empty_sheet F))) in
+        let small : Bytes (samples_in A F) = in-turn-bytes (empty_sheet F) (material_in A F) (in_turn F.records) (replicate (area (empty_sheet F)) 0) _ f.sound (zeros-bytes (area (empty_sheet F))) in
         omega (arith, sheet-short F.width F.height (samples_in A F) f.width f.height small, f.samples)

@@ -3,54 +3,51 @@ use Prim.Native.Nat.{ℕ, ◌*◌, ◌≤◌, ◌<◌}
 use mathlib.Core.Path.{◌≡◌, refl, sym, ◌∙◌, ap, subst}
 use mathlib.Core.List.{List, ◌++◌}
 use native.Mathlib.Omega.{arith}
-use borrow.Author.Tests.{le-leb, lt-leb}
-use lib.IntN.{ℤ}
+use borrow.Author.Tests.{le-leb}
+use lib.IntN.{ℤ, pos}
 use lib.ListN.{length, get_or, take, drop, replicate, length-append, length-replicate, get_or-append}
 use lib.Seq.{take_at}
-use Rattle.arith.specs.Checks.{refused, given}
+use Rattle.arith.specs.Checks.{given}
 use Rattle.arith.proofs.CheckLaws.{given-means}
-use Rattle.sheet.specs.State.{area, blocks_of}
+use Rattle.sheet.specs.declared.Sheet.{Sheet}
+use Rattle.sheet.specs.State.{area, blocks_of, finished}
 use Rattle.sheet.proofs.InTurnLaws.{length-in-turn}
 use Rattle.record_text.specs.Numeral.{numeral_end}
 use Rattle.record_text.specs.Lines.{Lined, refused_at, read}
 use Rattle.record_print.specs.Put.{Written}
 use Rattle.record_print.proofs.PutLaws.{written-whole}
 use Rattle.sheet_grid.specs.Grid.{most_samples, most_blocks}
-use Rattle.show_text.specs.Printed.{sheet_text}
+use Rattle.show_text.specs.Printed.{sheet_text, refusal_text}
 use Rattle.show_text.proofs.PrintLaws.{sheet-same}
+use Rattle.std.proofs.Common.{Ok, Err}
+use Rattle.pattern.specs.declared.refusals.Refusal.{Refusal}
+use Rattle.pattern.specs.Refusal.{number_of}
 use Rattle.record_read.specs.declared.reading.FileBack.{FileBack}
-use Rattle.record_file.specs.Reading.{File, Aids, read_file}
-use Rattle.record_read.specs.Back.{empty_sheet, material_in, in_turn, samples_in, samples_back, file_back, leaving}
+use Rattle.record_read.specs.declared.lines.LineRefusal.{LineRefusal}
+use Rattle.record_file.specs.Reading.{File, Aids}
+use Rattle.record_read.specs.Back.{Back, Lent, lent_of, empty_sheet, material_in, in_turn, samples_in, samples_back, back_told, file_back, leaving, reading, Reads}
 use Rattle.show_text.specs.Showing.{size_in, aids_for, text_by, read_with, shown_text, text_bytes, show_refusal, show_answer, show_after}
 use Rattle.record_file.proofs.LineBounds.{Below, line_end, read_below}
 use Rattle.show_text.proofs.SampleLaws.{file-fits, text-short}
 
--- ---- what reading answered
+-- ---- what reading answers and leaves
 
--- the lengths of what is lent to it
-pub lent-read :
-    (A : Aids) (s samples : List ℕ) (records : List (List ℤ)) → length samples ≡ most_samples → length records ≡ most_blocks
-    → read_file A (length samples) (length records) s ≡ read_with A s
-lent-read A s samples records a b = rw (a, b)
+-- no refusal has the number 0
+number-some : (r : Refusal) → number_of r ≡ 0 → ⊥
+number-some r = grind arith
 
--- a refusal
-pub back-refused : (x : Lined File) (r : FileBack) → r ≡ file_back x → (r.refusal ≡ 0 → ⊥) → x ≡ refused_at r.refusal r.line
-back-refused (refused_at n k) r e h = rw e
-back-refused (read F s) r e h = absurd (h (ap (λ (b : FileBack). b.refusal) e))
-
--- its line can be printed
-pub back-line : (x : Lined File) (r : FileBack) → r ≡ file_back x → (r.refusal ≡ 0 → ⊥) → Below line_end x → r.line < numeral_end
-back-line (refused_at n k) r e h b = omega (arith, ap (λ (b : FileBack). b.line) e, b.1)
-back-line (read F s) r e h b = absurd (h (ap (λ (b : FileBack). b.refusal) e))
+-- a refused line
+back-refused : (x : Lined File) (e : LineRefusal) → back_told (Err e) ≡ file_back x → x ≡ refused_at (number_of e.refusal) e.line
+back-refused (refused_at n k) e h = rw (ap (λ (b : Back). b.refusal) h, ap (λ (b : Back). b.line) h)
+back-refused (read F s) e h = absurd (number-some e.refusal (ap (λ (b : Back). b.refusal) h))
 
 -- a sheet, with the samples that reading left
-pub record SheetBack (A : Aids) (x : Lined File) (r : FileBack) (samples : List ℕ) : Type 0 where
-  pub some : 0 < r.sheet.width
-  pub width : r.sheet.width ≤ 128
-  pub height : r.sheet.height ≤ 128
-  pub few : r.sheet.width * r.sheet.height ≤ most_samples
-  pub held : r.sheet.width * r.sheet.height ≤ length samples
-  pub same : sheet_text r.sheet.width r.sheet.height samples ≡ text_by A x
+pub record SheetBack (A : Aids) (x : Lined File) (S : Sheet) (samples : List ℕ) : Type 0 where
+  pub width : S.width ≤ 128
+  pub height : S.height ≤ 128
+  pub few : S.width * S.height ≤ most_samples
+  pub held : S.width * S.height ≤ length samples
+  pub same : sheet_text S.width S.height samples ≡ text_by A x
 
 -- the samples in the first places are those of the sheet
 module _ (A : Aids) (F : File) (old : List ℕ) where
@@ -67,27 +64,46 @@ module _ (A : Aids) (F : File) (old : List ℕ) where
   unfolding samples_back
   drawn-at i h = get_or-append (samples_in A F) (drop (F.width * F.height) old) 0 i (omega (arith, drawn-length))
 
--- what was answered and left where nothing was refused
-pub back_read :
-    (A : Aids) (s : List ℕ) (r : FileBack) (samples old : List ℕ) → r ≡ file_back (read_with A s) → r.refusal ≡ 0
-    → samples ≡ leaving (read_with A s) (λ F. samples_back A F old) old → SheetBack A (read_with A s) r samples
-back_read A s r samples old e h d = go (read_with A s) refl e d
-  where
-    go : (x : Lined File) → read_with A s ≡ x → r ≡ file_back x → samples ≡ leaving x (λ F. samples_back A F old) old → SheetBack A x r samples
-    go (refused_at n k) q e d =
-        let b : (0 < n) × (k < line_end) = subst (λ (x : Lined File). Below line_end x) q (read_below A most_samples most_blocks s) in
-        absurd (omega (arith, h, ap (λ (b : FileBack). b.refusal) e))
-    go (read F t) q e d =
-        let f = file-fits A most_samples most_blocks F s t q in
-        rw (e, d)
-        (record {
-          some = f.some;
-          width = f.width;
-          height = f.height;
-          few = f.samples;
-          held = drawn-held A F old;
-          same = sheet-same F.width F.height (samples_back A F old) (samples_in A F) (drawn-at A F old);
-        })
+-- as much is lent to it as a sheet can have
+abbrev pub lent : Lent
+lent = lent_of (replicate most_samples 0) (replicate most_blocks (replicate 4 (pos 0)))
+
+module _ (A : Aids) (s : List ℕ) where
+  lent-read : reading A lent s ≡ read_with A s
+  lent-read = rw (length-replicate {A = ℕ} most_samples 0, length-replicate {A = List ℤ} most_blocks (replicate 4 (pos 0)))
+
+  -- what was answered where a line is refused, and the line can be printed
+  pub refused-shown :
+      {after : Lent} (e : LineRefusal) → Reads A lent s (back_told (Err e)) after
+      → (refusal_text (number_of e.refusal) e.line ≡ text_by A (read_with A s)) × (e.line < numeral_end)
+  refused-shown e r =
+      let is : read_with A s ≡ refused_at (number_of e.refusal) e.line = back-refused (read_with A s) e (r.answered ∙ ap file_back lent-read) in
+      let b : (0 < number_of e.refusal) × (e.line < line_end) = subst (λ (x : Lined File). Below line_end x) is (read_below A most_samples most_blocks s) in
+      (sym (ap (text_by A) is), omega (arith, b.1))
+
+  -- and what was answered and left where none is
+  pub sheet-shown : {after : Lent} (b : FileBack) → Reads A lent s (back_told (Ok b)) after → SheetBack A (read_with A s) b.sheet after.samples
+  sheet-shown {after} b r =
+      let drawn : Lined File → List ℕ = λ x. leaving x (λ F. samples_back A F lent.samples) lent.samples in
+      go (read_with A s) refl (r.answered ∙ ap file_back lent-read) (r.drawn ∙ ap drawn lent-read)
+    where
+      go :
+          (x : Lined File) → read_with A s ≡ x → back_told (Ok b) ≡ file_back x
+          → after.samples ≡ leaving x (λ F. samples_back A F lent.samples) lent.samples → SheetBack A x b.sheet after.samples
+      go (refused_at n k) q e d =
+          let h : (0 < n) × (k < line_end) = subst (λ (x : Lined File). Below line_end x) q (read_below A most_samples most_blocks s) in
+          absurd (omega (arith, h.0, ap (λ (c : Back). c.refusal) e))
+      go (read F t) q e d =
+          let f = file-fits A most_samples most_blocks F s t q in
+          let S : b.sheet ≡ finished (empty_sheet F) = ap (λ (c : Back). c.sheet) e in
+          rw (S, d)
+          (record {
+            width = f.width;
+            height = f.height;
+            few = f.samples;
+            held = drawn-held A F lent.samples;
+            same = sheet-same F.width F.height (samples_back A F lent.samples) (samples_in A F) (drawn-at A F lent.samples);
+          })
 
 -- ---- the answer
 
@@ -97,12 +113,7 @@ unfolding shown_text
 shown-short s = text-short (aids_for (size_in s)) most_samples most_blocks s
 
 module _ (s old : List ℕ) where
-  -- the space is short
-  pub show-short : length old < text_bytes → (refused 2 ≡ show_answer s (length old)) × (old ≡ show_after s old)
-  unfolding show_answer show_after
-  show-short h = rw (lt-leb text_bytes (length old) h) (refl, refl)
-
-  -- or the text was written
+  -- the text was written
   pub show-given :
       {new : List ℕ} {k : ℕ} → text_bytes ≤ length old → Written old new 0 (shown_text s) k → (given k ≡ show_answer s (length old)) × (new ≡ show_after s old)
   unfolding show_answer show_after

@@ -2,5 +2,4 @@
 pub mod Printed
 pub mod Showing
 pub mod Steps
-pub mod Told
 pub mod Examples

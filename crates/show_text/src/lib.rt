@@ -4,4 +4,4 @@
 mod printing;
 mod showing;
 
-pub use showing::{FILE_BYTES, Shown, TEXT_BYTES, show_text};
+pub use showing::{FILE_BYTES, TEXT_BYTES, show_text};

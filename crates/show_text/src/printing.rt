@@ -1,28 +1,24 @@
 // Printing a sheet and a refusal.
 ghost use Rattle.std.specs.Prelude.{◌≡◌, ◌+◌, ◌*◌, ◌<◌, ◌≤◌, length};
+ghost use Rattle.pattern.specs.Refusal.{number_of};
 ghost use Rattle.record_text.specs.Numeral.{numeral_end};
 ghost use Rattle.record_print.specs.Put.{Written};
 ghost use Rattle.show_text.specs.Printed.{pair_text, sides_text, rows_text, sheet_text, refusal_text};
 ghost use Rattle.sheet_grid.specs.Grid.{most_samples};
 ghost use Rattle.show_text.specs.Steps.{SheetFits};
 
-use record_print::{put_depth_title, put_number, put_text};
-use record_text::{Cursor, end_byte};
-
-// A byte as a longer number.
-fn wide(b: u8) -> u32
-    ensures { result ≡ b }
-{
-    b as u32
-}
+use record_print::{Cursor, put_number, put_text, put_title};
+use record_read::LineRefusal;
+use record_text::{Title, end_byte};
+use sheet::Sheet;
 
 // Two numbers on a line; the place after it.
 fn put_pair(out: &mut [u8], from: Cursor, a: u32, b: u32) -> Cursor
     requires { (a < numeral_end) × (b < numeral_end) × (from.at + 12 ≤ length out.old) }
     ensures { Written out.old out.new from.at (pair_text a b) result.at }
 {
-    let next = put_number(out, from, a, 32);
-    put_number(out, next, b, 10)
+    let next = put_number(out, from, a, b' ');
+    put_number(out, next, b, b'\n')
 }
 
 // The lines before the sample rows; the place after them.
@@ -32,7 +28,7 @@ fn put_sides(out: &mut [u8], width: u32, height: u32) -> Cursor
 {
     let title = put_text(out, Cursor { at: 0 }, b"width height\n");
     let sides = put_pair(out, title, width, height);
-    put_depth_title(out, sides)
+    put_title(out, sides, Title::Depth)
 }
 
 // The sample rows; the place after them.
@@ -42,30 +38,36 @@ fn put_rows(out: &mut [u8], from: Cursor, width: usize, height: usize, samples: 
     ensures { Written out.old out.new from.at (rows_text width height samples.now) result.at }
 {
     let mut next = from;
-    for i in 0..width * height {
-        let v = wide(samples[i]);
+    for (i, sample) in samples[..width * height].iter().enumerate() {
+        let depth = u32::from(*sample);
         let end = end_byte((i + 1) % width == 0);
-        next = put_number(out, next, v, end);
+        next = put_number(out, next, depth, end);
     }
     next
 }
 
 // The text of a sheet from the start of `out`; its length.
-pub(crate) fn put_sheet(out: &mut [u8], width: u32, height: u32, samples: &[u8]) -> usize
-    requires { SheetFits width height (length samples.now) (length out.old) }
-    ensures { Written out.old out.new 0 (sheet_text width height samples.now) result }
+pub(crate) fn put_sheet(out: &mut [u8], sheet: Sheet, samples: &[u8]) -> usize
+    requires { SheetFits sheet.width sheet.height (length samples.now) (length out.old) }
+    ensures { Written out.old out.new 0 (sheet_text sheet.width sheet.height samples.now) result }
 {
-    let sides = put_sides(out, width, height);
-    let end = put_rows(out, sides, width as usize, height as usize, samples);
-    end.at
+    let sides = put_sides(out, sheet.width, sheet.height);
+    put_rows(
+        out,
+        sides,
+        sheet.width as usize,
+        sheet.height as usize,
+        samples,
+    )
+    .at
 }
 
 // The text of a refusal from the start of `out`; its length.
-pub(crate) fn put_refusal(out: &mut [u8], number: u8, line: u32) -> usize
-    requires { (line < numeral_end) × (25 ≤ length out.old) }
-    ensures { Written out.old out.new 0 (refusal_text number line) result }
+pub(crate) fn put_refusal(out: &mut [u8], refused: LineRefusal) -> usize
+    requires { (refused.line < numeral_end) × (25 ≤ length out.old) }
+    ensures { Written out.old out.new 0 (refusal_text (number_of refused.refusal) refused.line) result }
 {
     let title = put_text(out, Cursor { at: 0 }, b"refusal line\n");
-    let end = put_pair(out, title, wide(number), line);
-    end.at
+    let number = u32::from(u8::from(refused.refusal));
+    put_pair(out, title, number, refused.line).at
 }

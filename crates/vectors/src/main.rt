@@ -2,15 +2,19 @@
 // form of the cases and of the answers. A line of another form ends the program with the line `bad case`.
 #![tactic(auto)]
 
-ghost use Rattle.std.specs.Prelude.{◌<◌};
+ghost use Rattle.std.specs.Prelude.{◌<◌, length, IfOk, IfSome};
 
 mod blocks;
+mod call;
+mod fields;
 mod output;
 mod patterns;
 mod reader;
 mod sheets;
 
-use reader::{FIELDS, TEXT};
+use call::{Call, Lent};
+use fields::Fields;
+use reader::TEXT;
 use std::io;
 use wedgelet::LIST_WORDS;
 
@@ -21,74 +25,57 @@ const NEIGHBOURS: usize = pattern::NEIGHBOURS + 1;
 
 const VALUES: usize = 300;
 
-// Makes the call whose word has these letters first and third, and prints its answer; whether there is such a call.
-fn call(
-    rt: &impl Print,
-    letters: u64,
-    f: &[u64; FIELDS],
-    list: &mut [u64],
-    samples: &mut [u8],
-    border: &[u8],
-    table: &[u8],
-    texture: &[u8],
-    original: &[u8],
-) -> io::Result<bool> {
-    match letters {
-        0x6964 => patterns::index(rt, f, table)?,
-        0x6D72 => patterns::marks(rt, f)?,
-        0x636E => patterns::contour(rt, f, texture)?,
-        0x7764 => patterns::wedgelets(rt, f, list)?,
-        0x7364 => blocks::sides(rt, f, border)?,
-        0x7065 => blocks::predict(rt, f, border, table, samples)?,
-        0x636F => blocks::choose(rt, f, list, border, original, table, texture)?,
-        0x6E77 => sheets::new(rt, f)?,
-        0x7061 => sheets::place(rt, f, samples, list, table, texture)?,
-        0x636D => sheets::compose(rt, f, samples, original, list, table, texture)?,
-        _ => return Ok(false),
-    }
-    Ok(true)
-}
-
-// Makes the slices of a case, and the call; whether there is such a call.
-fn answer(rt: &impl Print, letters: u64, f: &[u64; FIELDS]) -> io::Result<bool> {
+// Makes the slices of a case, and the call, and prints its answer.
+fn answer(rt: &impl Print, call: Call, fields: &Fields) -> io::Result<()> {
     let mut words = [0u64; LIST_WORDS];
-    let mut lent = [0u8; SAMPLES];
+    let mut block = [0u8; SAMPLES];
     let mut neighbours = [0u8; NEIGHBOURS];
     let mut values = [0u8; VALUES];
     let mut textures = [0u8; SAMPLES];
     let mut originals = [0u8; SAMPLES];
-    let list = reader::list(f, &mut words);
-    let samples = reader::bytes(f, b's', &mut lent);
-    let border = reader::bytes(f, b'n', &mut neighbours);
-    let table = reader::bytes(f, b't', &mut values);
-    let texture = reader::bytes(f, b'x', &mut textures);
-    let original = reader::bytes(f, b'o', &mut originals);
-    call(
-        rt, letters, f, list, samples, border, table, texture, original,
-    )
+    let list = fields.list(&mut words);
+    let samples = fields.samples(b's', &mut block);
+    let lent = Lent {
+        border: fields.samples(b'n', &mut neighbours),
+        table: fields.samples(b't', &mut values),
+        texture: fields.samples(b'x', &mut textures),
+        original: fields.samples(b'o', &mut originals),
+    };
+    call.answer(rt, fields, list, samples, lent)
 }
 
-// Answers the case of a line; the place where the line ends, or the end of the text where it is no case.
-fn case(rt: &impl Print, text: &[u8; TEXT], line: usize) -> io::Result<usize>
-    requires { line < 524288 }
+// Answers the case of the first line; the lines after it, none where it is no case.
+fn case<'a>(rt: &impl Print, lines: &'a [u8]) -> io::Result<Option<&'a [u8]>>
+    ensures { IfOk result (λ next. IfSome next (λ s. length s.now < length lines.now)) }
 {
-    let mut space = [0u64; FIELDS];
-    let end = reader::fields(text, line, &mut space);
-    output::text(rt, reader::word(text, line))?;
-    if answer(rt, reader::letters(text, line), &space)? {
-        return Ok(end);
+    let (word, after) = reader::split_digits(lines, 36);
+    rt.write_all(word)?;
+    let (fields, rest) = Fields::read(after);
+    let call = Call::named(lines);
+    if let Some(call) = call {
+        answer(rt, call, &fields)?;
     }
-    Ok(TEXT)
+    rt.write_all(b"\n")?;
+    match (call, rest.split_first()) {
+        (Some(_), Some((b'\n', next))) => Ok(Some(next)),
+        _ => {
+            rt.write_all(b"bad case\n")?;
+            Ok(None)
+        }
+    }
 }
 
-// Answers the cases of a text.
-fn cases(rt: &impl Print, text: &[u8; TEXT]) -> io::Result<()> {
-    let mut at = 0;
-    while at < TEXT {
-        if text[at] == 0 {
-            return Ok(());
+// Answers the cases of a text; a byte 0 in place of a line ends it.
+fn cases(rt: &impl Print, text: &[u8]) -> io::Result<()> {
+    let mut lines = text;
+    while let Some(first) = lines.first() {
+        if *first == 0 {
+            break;
         }
-        at = reader::next_line(rt, text, at, case(rt, text, at)?)?;
+        let Some(next) = case(rt, lines)? else {
+            break;
+        };
+        lines = next;
     }
     Ok(())
 }

@@ -1,17 +1,11 @@
 // The fields of the answers, as they are printed.
+use pattern::Refusal;
+use std::fmt::Display;
 use std::io;
 
-// As many records as the greatest sheet has blocks.
-pub(crate) const RECORDS: usize = 1024;
-
-// Bytes as they are.
-pub(crate) fn text(rt: &impl Print, bytes: &[u8]) -> io::Result<()> {
-    rt.write_all(bytes)
-}
-
-// A space and a decimal number.
-pub(crate) fn number(rt: &impl Print, n: u64) -> io::Result<()> {
-    print!(rt; " {n}")
+// A space and a number.
+pub(crate) fn number(rt: &impl Print, x: impl Display + Drop) -> io::Result<()> {
+    print!(rt; " {x}")
 }
 
 // A space, an x and the hexadecimal digits of a word.
@@ -19,89 +13,83 @@ pub(crate) fn word(rt: &impl Print, w: u64) -> io::Result<()> {
     print!(rt; " x{w:x}")
 }
 
-// The field `refused` and the refusal number.
-pub(crate) fn refused(rt: &impl Print, r: u8) -> io::Result<()> {
-    print!(rt; " refused {r}")
+// The field `refused` and the refusal's number.
+pub(crate) fn refused(rt: &impl Print, refusal: Refusal) -> io::Result<()> {
+    let number = u8::from(refusal);
+    print!(rt; " refused {number}")
 }
 
-// A space and a signed number.
-pub(crate) fn signed(rt: &impl Print, z: i32) -> io::Result<()> {
-    print!(rt; " {z}")
+// The checksum of numbers.
+#[derive(Drop)]
+struct Checksum {
+    sum: u64,
 }
 
-// The checksum with one more number.
-fn step(c: u64, number: u64) -> u64 {
-    (c % 1000000007 * 31 + number % 1000000007) % 1000000007
-}
-
-// The field `checksum` and a checksum.
-fn checksum(rt: &impl Print, c: u64) -> io::Result<()> {
-    print!(rt; " checksum {c}")
-}
-
-// A sample; prints it where it is shown.
-fn sample(rt: &impl Print, s: u8, shown: bool) -> io::Result<u64> {
-    if shown {
-        number(rt, s as u64)?;
+impl Checksum {
+    // The checksum of no numbers.
+    fn new() -> Checksum {
+        Checksum { sum: 0 }
     }
-    Ok(s as u64)
+
+    // One number more.
+    fn add(&mut self, number: u64) {
+        self.sum = (self.sum % 1000000007 * 31 + number % 1000000007) % 1000000007;
+    }
+
+    // The field `checksum` and the checksum.
+    fn print(&self, rt: &impl Print) -> io::Result<()> {
+        let sum = self.sum;
+        print!(rt; " checksum {sum}")
+    }
 }
 
 // The samples, where they are shown, and their checksum.
-pub(crate) fn samples(rt: &impl Print, s: &[u8], shown: bool) -> io::Result<()> {
-    let mut c = 0;
-    for i in 0..s.len() {
-        c = step(c, sample(rt, s[i], shown)?);
+pub(crate) fn samples(rt: &impl Print, samples: &[u8], shown: bool) -> io::Result<()> {
+    let mut checksum = Checksum::new();
+    for sample in samples {
+        if shown {
+            number(rt, *sample)?;
+        }
+        checksum.add(u64::from(*sample));
     }
-    checksum(rt, c)
+    checksum.print(rt)
 }
 
-// The checksum with a word, its low half first; prints the word where it is shown.
-fn with_word(rt: &impl Print, c: u64, w: u64, shown: bool) -> io::Result<u64> {
-    if shown {
-        word(rt, w)?;
-    }
-    Ok(step(step(c, w % 4294967296), w / 4294967296))
-}
-
-// The words from `first` on below `end`, and the checksum of all.
+// The words from `first` on below `end`, and the checksum of all: of each its low half, then the high one.
 pub(crate) fn words(rt: &impl Print, list: &[u64], first: usize, end: usize) -> io::Result<()> {
-    let mut c = 0;
-    for i in 0..list.len() {
-        c = with_word(rt, c, list[i], first <= i && i < end)?;
+    let mut checksum = Checksum::new();
+    for (i, w) in list.iter().enumerate() {
+        if first <= i && i < end {
+            word(rt, *w)?;
+        }
+        checksum.add(*w % 4294967296);
+        checksum.add(*w / 4294967296);
     }
-    checksum(rt, c)
+    checksum.print(rt)
 }
 
-// The checksum with one field of a record more, its sign and its magnitude; prints the field where it is shown.
-fn with_field(rt: &impl Print, c: u64, z: i32, lent: bool, shown: bool) -> io::Result<u64> {
-    if !lent {
-        return Ok(c);
-    }
-    if shown {
-        signed(rt, z)?;
-    }
-    Ok(step(step(c, (z < 0) as u64), depth_table::magnitude(z) as u64))
-}
-
-// The checksum with a record, where it is lent; prints the record where it is shown.
-fn with_record(rt: &impl Print, c: u64, r: [i32; 4], lent: bool, shown: bool) -> io::Result<u64> {
-    let kind = with_field(rt, c, r[0], lent, shown)?;
-    let entry = with_field(rt, kind, r[1], lent, shown)?;
-    let off0 = with_field(rt, entry, r[2], lent, shown)?;
-    with_field(rt, off0, r[3], lent, shown)
-}
-
-// The first records, as many as are shown, and the checksum of those that are lent.
-pub(crate) fn records(
+// The fields of a record, where it is shown; each counts by its sign and its magnitude.
+fn record(
     rt: &impl Print,
-    r: &[[i32; 4]; RECORDS],
-    lent: usize,
-    shown: usize,
+    checksum: &mut Checksum,
+    fields: &[i32; 4],
+    shown: bool,
 ) -> io::Result<()> {
-    let mut c = 0;
-    for i in 0..RECORDS {
-        c = with_record(rt, c, r[i], i < lent, i < shown)?;
+    for z in fields {
+        if shown {
+            number(rt, *z)?;
+        }
+        checksum.add(u64::from(*z < 0));
+        checksum.add(u64::from(z.unsigned_abs()));
     }
-    checksum(rt, c)
+    Ok(())
+}
+
+// The first records, as many as are shown, and the checksum of all.
+pub(crate) fn records(rt: &impl Print, records: &[[i32; 4]], shown: usize) -> io::Result<()> {
+    let mut checksum = Checksum::new();
+    for (i, fields) in records.iter().enumerate() {
+        record(rt, &mut checksum, fields, i < shown)?;
+    }
+    checksum.print(rt)
 }

@@ -1,66 +1,56 @@
 // The calls on tables and patterns: index of a depth, marks, contour, wedgelet list. Each prints its answer.
-use crate::reader::FIELDS;
-use crate::{output, reader};
-use depth_table::{DepthValue, Indexed};
-use pattern::{Contoured, Pattern};
+use crate::fields::Fields;
+use crate::output;
+use depth_table::DepthValue;
+use pattern::Pattern;
 use std::io;
-use wedgelet::Listed;
 
 // The pattern of the four numbers after the first.
-pub(crate) fn pattern_of(f: &[u64; FIELDS]) -> Pattern {
+pub(crate) fn pattern_of(fields: &Fields) -> Pattern {
+    let f = fields.line();
     Pattern {
-        w0: reader::number(f, 1),
-        w1: reader::number(f, 2),
-        w2: reader::number(f, 3),
-        w3: reader::number(f, 4),
+        w0: f.number(1),
+        w1: f.number(2),
+        w2: f.number(3),
+        w3: f.number(4),
     }
 }
 
 // `index DEPTH`: the index of a depth in the table.
-pub(crate) fn index(rt: &impl Print, f: &[u64; FIELDS], table: &[u8]) -> io::Result<()> {
-    let depth = DepthValue((reader::number(f, 0) % 256) as u8);
-    let indexed = depth_table::index_of(table, depth);
-    match indexed {
-        Indexed::At(index) => output::number(rt, index.0 as u64),
-        Indexed::Refused(r) => output::refused(rt, r),
+pub(crate) fn index(rt: &impl Print, fields: &Fields, table: &[u8]) -> io::Result<()> {
+    let depth = DepthValue((fields.line().number(0) % 256) as u8);
+    match depth_table::index_of(table, depth) {
+        Ok(index) => output::number(rt, index.0),
+        Err(refusal) => output::refused(rt, refusal),
     }
 }
 
 // `marks K W0 W1 W2 W3`: the number of marks, and whether sample k is marked.
-pub(crate) fn marks(rt: &impl Print, f: &[u64; FIELDS]) -> io::Result<()> {
-    let p = pattern_of(f);
-    output::number(rt, pattern::marks(p) as u64)?;
-    output::number(
-        rt,
-        pattern::mark_at(p, reader::number(f, 0) as usize) as u64,
-    )
+pub(crate) fn marks(rt: &impl Print, fields: &Fields) -> io::Result<()> {
+    let p = pattern_of(fields);
+    output::number(rt, p.marks())?;
+    output::number(rt, u8::from(p.mark_at(fields.line().size(0))))
 }
 
 // `contour N`: the pattern of the texture's contour.
-pub(crate) fn contour(rt: &impl Print, f: &[u64; FIELDS], texture: &[u8]) -> io::Result<()> {
-    let contoured = pattern::contour(reader::number(f, 0) as usize, texture);
-    match contoured {
-        Contoured::Pattern(p) => {
+pub(crate) fn contour(rt: &impl Print, fields: &Fields, texture: &[u8]) -> io::Result<()> {
+    match pattern::contour(fields.line().size(0), texture) {
+        Ok(p) => {
             output::word(rt, p.w0)?;
             output::word(rt, p.w1)?;
             output::word(rt, p.w2)?;
             output::word(rt, p.w3)
         }
-        Contoured::Refused(r) => output::refused(rt, r),
+        Err(refusal) => output::refused(rt, refusal),
     }
 }
 
 // `wedgelets N FIRST END`: the count of the list built in the lent one, its words from FIRST on below END, and the checksum of all.
-pub(crate) fn wedgelets(rt: &impl Print, f: &[u64; FIELDS], list: &mut [u64]) -> io::Result<()> {
-    let listed = wedgelet::wedgelets(reader::number(f, 0) as usize, list);
-    match listed {
-        Listed::Count(count) => output::number(rt, count as u64)?,
-        Listed::Refused(r) => output::refused(rt, r)?,
+pub(crate) fn wedgelets(rt: &impl Print, fields: &Fields, list: &mut [u64]) -> io::Result<()> {
+    let f = fields.line();
+    match wedgelet::wedgelets(f.size(0), list) {
+        Ok(count) => output::number(rt, count)?,
+        Err(refusal) => output::refused(rt, refusal)?,
     }
-    output::words(
-        rt,
-        list,
-        reader::number(f, 1) as usize,
-        reader::number(f, 2) as usize,
-    )
+    output::words(rt, list, f.size(1), f.size(2))
 }

@@ -22,24 +22,14 @@ use Rattle.pattern.proofs.WordLaws.{length-patterns, words-whole, patterns-words
 use Rattle.wedgelet.specs.Wedgelet.{points, wedgelet_list}
 use Rattle.wedgelet.specs.Answer.{needed, needed_words, most_patterns, most_words, list_refusal, list_answer, list_after, as_built}
 
--- a list of enough words for an allowed size
-pub record ListFits (n words : ℕ) : Type 0 where
-  pub size : size_ok n ≡ true
-  pub low : 4 ≤ n
-  pub cases : (n ≤ 8) ⊎ (n ≡ greatest_size)
-  pub room : needed_words n ≤ words
-
-pub list-fits : (n words : ℕ) → list_refusal n words ≡ 0 → ListFits n words
+-- what follows where no check fails: an allowed size, and enough words for it
+pub list_fits : (n words : ℕ) → 0 ≡ list_refusal n words → (2 ≤ n) × ((n ≤ 8) ⊎ (n ≡ greatest_size)) × (needed_words n ≤ words)
 unfolding list_refusal
-list-fits n words h =
-    let p = passed (size_ok n) 0 _ h in
+list_fits n words h =
+    let p = passed (size_ok n) 0 _ (sym h) in
     let q = passed (leb (needed_words n) words) 1 0 p.1 in
-    record {
-      size = p.0;
-      low = (size-bounds n p.0).0;
-      cases = ⊎_elim (λ b. inl b.1) (λ e. inr e) (size-cases n p.0);
-      room = leb-true (needed_words n) words q.0;
-    }
+    let low = (size-bounds n p.0).0 in
+    (omega arith, ⊎_elim (λ b. inl b.1) (λ e. inr e) (size-cases n p.0), leb-true (needed_words n) words q.0)
 
 -- the patterns of the greatest size are enough for every allowed size, and so are its words
 pub patterns-enough : (n : ℕ) → n ≤ greatest_size → needed n ≤ most_patterns

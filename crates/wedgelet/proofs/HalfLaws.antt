@@ -10,14 +10,14 @@ use lib.Arith.{digits_div, digits_mod}
 use lib.Dec.{ltb}
 use lib.Pow.{pow_pos, pow_mono, shl_exact}
 use Rattle.arith.specs.Bits.{bits}
-use Rattle.arith.proofs.BitLaws.{shifted_one, bits-lt, bits-ext, bits-append, bits_none, bits-all, run-front, run-back}
-use Rattle.pattern.specs.Size.{greatest_size}
+use Rattle.arith.proofs.BitLaws.{bits-lt, bits-ext, bits-append, bits_none, bits-all, run-front, run-back}
+use Rattle.pattern.specs.Size.{greatest_size, greatest_samples}
 use Rattle.pattern.specs.Pattern.{pattern}
 use Rattle.pattern.specs.Words.{four_words}
 use Rattle.pattern.proofs.WordLaws.{four_same, four-bits}
 use Rattle.wedgelet.specs.declared.half.Half.{Half}
 use Rattle.wedgelet.specs.Wedgelet.{beside}
-use Rattle.wedgelet.specs.Half.{in_half, flip, Small}
+use Rattle.wedgelet.specs.Half.{in_half, flip}
 use Rattle.wedgelet.proofs.LineLaws.{beside-products}
 
 -- ---- sums that are stepped
@@ -69,13 +69,23 @@ module _ (a p b q n : ℕ) where
       let m : d < x * s = (div-lt_iff_lt-mul pos).0 c in
       lt-ltb (a + p * x) (b + q * x) (omega (arith, apart p q x (omega arith), mul_comm x s))))
 
-  pub row-front : a < b → q < p → (to : ℕ) → to ≡ min ((b - a - 1) / (p - q)) n → 2 ^ min (to + 1) n - 1 ≡ bits below n
-  row-front h l to e =
+  -- the same from the marks of the columns, all and up to t
+  pub row-past :
+      {t u v w : ℕ} → b ≤ a → p < q → t ≡ (a - b) / (q - p) → u ≡ 2 ^ n - 1 → v ≡ min (t + 1) n → w ≡ 2 ^ v - 1 → u - w ≡ bits below n
+  row-past {t} {u} {v} {w} h l et eu ev ew =
+      let past : v ≡ min (min t n + 1) n = omega arith in
+      let whole : u - w ≡ 2 ^ n - 2 ^ v = omega (arith, pow_pos n, pow_pos v) in
+      whole ∙ ap (λ (x : ℕ). 2 ^ n - 2 ^ x) past ∙ row_back h l (min t n) (ap (λ (x : ℕ). min x n) et)
+
+  pub row-front : {r t v : ℕ} → a < b → q < p → t ≡ (b - a - 1) / (p - q) → v ≡ min (t + 1) n → r ≡ 2 ^ v - 1 → r ≡ bits below n
+  row-front h l et ev er =
       let s = p - q in
       let d = b - a - 1 in
       let pos : 0 < s = omega arith in
-      sym
-      (run-front below (min (to + 1) n) n (omega arith)
+      er
+      ∙ ap (λ (x : ℕ). 2 ^ x - 1) (ev ∙ ap (λ (x : ℕ). min (x + 1) n) et)
+      ∙ sym
+      (run-front below (min (d / s + 1) n) n (omega arith)
       (λ x u.
       let c : x ≤ d / s = omega arith in
       let m : x * s ≤ d = (le-div_iff_mul-le pos).0 c in
@@ -84,16 +94,6 @@ module _ (a p b q n : ℕ) where
       let c : d / s < x = omega arith in
       let m : d < x * s = (div-lt_iff_lt-mul pos).0 c in
       le-ltb (a + p * x) (b + q * x) (omega (arith, apart q p x (omega arith), mul_comm x s))))
-
--- the powers as shifts make them
-pub shifted-le : (t n : ℕ) → t ≤ n → n < 64 → 1 * 2 ^ t % 2 ^ 64 ≤ 1 * 2 ^ n % 2 ^ 64
-shifted-le t n h l = rw (shifted_one t (omega arith), shifted_one n l) (pow_mono h)
-
-pub shifted-pos : (n : ℕ) → n < 64 → 1 ≤ 1 * 2 ^ n % 2 ^ 64
-shifted-pos n l = rw (shifted_one n l) (pow_pos n)
-
-pub shifted-to : (t : ℕ) {u : ℕ} → t < 64 → t ≡ u → 1 * 2 ^ t % 2 ^ 64 ≡ 2 ^ u
-shifted-to t h e = shifted_one t h ∙ ap (λ (x : ℕ). 2 ^ x) e
 
 -- ---- sums, row by row
 
@@ -134,7 +134,7 @@ module _ (h : Half) (n from : ℕ) where
       let next : (k + 1) * n ≤ 64 = omega (arith, add-mul k 1 n, one-mul n) in
       rw (row_more k hn le ew er) (lt_of_lt_of_le (bits-lt at_row ((k + 1) * n)) (pow_mono next))
 
--- the row that `row` makes, from its sums
+-- a row, from its sums
 pub row_of :
     (h : Half) (n y : ℕ) {low high r : ℕ} → low ≡ h.low + h.lrow * y → high ≡ h.high + h.hrow * y
     → r ≡ bits (λ x. ltb (low + h.lcol * x) (high + h.hcol * x)) n → r ≡ bits (λ x. in_half h x y) n
@@ -191,11 +191,11 @@ module _ (xs ys xe ye : ℕ) where
       beside-products xs ys xe ye 0 0 ∙ ap₂ ltb l r
 
   -- (0,0) is not beside the line
-  pub half-beside :
+  pub half_beside :
       (x y : ℕ) → xs * ye ≤ ys * xe
       → ltb (ys * xe + xs * y + ye * x) (xs * ye + xe * y + ys * x) ≡ flip (beside xs ys xe ye 0 0) (beside xs ys xe ye x y)
   unfolding flip
-  half-beside x y h =
+  half_beside x y h =
       let l : ys * xe + ye * x + y * xs ≡ ys * xe + xs * y + ye * x = omega (arith, mul_comm y xs) in
       let r : xs * ye + xe * y + x * ys ≡ xs * ye + xe * y + ys * x = omega (arith, mul_comm x ys) in
       sym
@@ -203,11 +203,11 @@ module _ (xs ys xe ye : ℕ) where
       ∙ beside-products xs ys xe ye x y ∙ ap₂ ltb l r)
 
   -- it is
-  pub half-other :
+  pub half_other :
       (x y : ℕ) → ys * xe < xs * ye
       → ltb (xs * ye + xe * y + ys * x) (ys * xe + 1 + xs * y + ye * x) ≡ flip (beside xs ys xe ye 0 0) (beside xs ys xe ye x y)
   unfolding flip
-  half-other x y h =
+  half_other x y h =
       let l : xs * ye + xe * y + x * ys ≡ xs * ye + xe * y + ys * x = omega (arith, mul_comm x ys) in
       let r : ys * xe + ye * x + y * xs + 1 ≡ ys * xe + 1 + xs * y + ye * x = omega (arith, mul_comm y xs) in
       sym
@@ -223,26 +223,24 @@ product-small a b h l = mul-le-mul {n₂ = 15} {m₂ = 15} (omega arith) (omega 
 -- the half that does not hold (0,0), and the one that does: both are small, and their marks are those of the line, inverted where it marks (0,0)
 pub half_other_made :
     (xs ys xe ye : ℕ) → xs < greatest_size → ys < greatest_size → xe < greatest_size → ye < greatest_size → ys * xe < xs * ye
-    → Small (record { low = xs * ye; lcol = ys; lrow = xe; high = ys * xe + 1; hcol = ye; hrow = xs })
+    → (l : (xs * ye ≤ greatest_samples) × (ys < greatest_size) × (xe < greatest_size))
+    × (h : (ys * xe + 1 ≤ greatest_samples) × (ye < greatest_size) × (xs < greatest_size))
     × ((x y : ℕ)
-    → in_half (record { low = xs * ye; lcol = ys; lrow = xe; high = ys * xe + 1; hcol = ye; hrow = xs }) x y
+    → in_half (record { low = xs * ye; lcol = ys; lrow = xe; high = ys * xe + 1; hcol = ye; hrow = xs; low_small = l; high_small = h }) x y
     ≡ flip (beside xs ys xe ye 0 0) (beside xs ys xe ye x y))
 half_other_made xs ys xe ye a b c d h =
     let u = product-small xs ye a d in
-    let v = product-small ys xe b c in (
-      record { low_le = omega arith; lcol_lt = omega arith; lrow_lt = omega arith; high_le = omega arith; hcol_lt = omega arith; hrow_lt = omega arith },
-      λ x y. half-other xs ys xe ye x y h,
-    )
+    let v = product-small ys xe b c in
+    ((omega arith, b, c), (omega arith, d, a), λ x y. half_other xs ys xe ye x y h)
 
 pub half_beside_made :
     (xs ys xe ye : ℕ) → xs < greatest_size → ys < greatest_size → xe < greatest_size → ye < greatest_size → xs * ye ≤ ys * xe
-    → Small (record { low = ys * xe; lcol = ye; lrow = xs; high = xs * ye; hcol = ys; hrow = xe })
+    → (l : (ys * xe ≤ greatest_samples) × (ye < greatest_size) × (xs < greatest_size))
+    × (h : (xs * ye ≤ greatest_samples) × (ys < greatest_size) × (xe < greatest_size))
     × ((x y : ℕ)
-    → in_half (record { low = ys * xe; lcol = ye; lrow = xs; high = xs * ye; hcol = ys; hrow = xe }) x y
+    → in_half (record { low = ys * xe; lcol = ye; lrow = xs; high = xs * ye; hcol = ys; hrow = xe; low_small = l; high_small = h }) x y
     ≡ flip (beside xs ys xe ye 0 0) (beside xs ys xe ye x y))
 half_beside_made xs ys xe ye a b c d h =
     let u = product-small xs ye a d in
-    let v = product-small ys xe b c in (
-      record { low_le = omega arith; lcol_lt = omega arith; lrow_lt = omega arith; high_le = omega arith; hcol_lt = omega arith; hrow_lt = omega arith },
-      λ x y. half-beside xs ys xe ye x y h,
-    )
+    let v = product-small ys xe b c in
+    ((omega arith, d, a), (omega arith, b, c), λ x y. half_beside xs ys xe ye x y h)

@@ -2,6 +2,5 @@
 pub mod Wedgelet
 pub mod Half
 pub mod Answer
-pub mod Told
 pub mod Laws
 pub mod Examples

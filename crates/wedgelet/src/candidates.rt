@@ -1,49 +1,40 @@
 // The candidates of the wedgelet list: pairs of border points, and their patterns.
-ghost use Rattle.std.specs.Prelude.{◌≡◌, ◌≤◌, ◌⊎◌};
+ghost use Rattle.std.specs.Prelude.{◌≡◌, ◌≤◌, ◌<◌, ◌⊎◌};
 ghost use Rattle.pattern.specs.Size.{greatest_size};
 ghost use Rattle.pattern.specs.Words.{pattern_number};
 ghost use Rattle.wedgelet.specs.Wedgelet.{point_x, point_y, wedgelet};
 
-use crate::half::{half_of, pattern_of};
+use crate::half::Half;
 use pattern::Pattern;
 
-// The column of border point k.
-fn point_x(n: usize, k: usize) -> usize
-    requires { (1 ≤ n) × (n ≤ greatest_size) }
-    ensures { result ≡ point_x n k }
-{
-    let m = n - 1;
-    if k < m {
-        return k;
-    }
-    if k < 2 * m {
-        return m;
-    }
-    if k < 3 * m {
-        return 3 * m - k;
-    }
-    0
+// The column and the row of a sample.
+#[derive(Clone, Copy)]
+pub(crate) struct Point {
+    pub x: usize,
+    pub y: usize,
+    ghost within: { (x < greatest_size) × (y < greatest_size) },
 }
 
-// The row of border point k.
-fn point_y(n: usize, k: usize) -> usize
-    requires { (1 ≤ n) × (n ≤ greatest_size) }
-    ensures { result ≡ point_y n k }
-{
-    let m = n - 1;
-    if k < m {
-        return 0;
+impl Point {
+    // Border point k.
+    fn on_border(n: usize, k: usize) -> Point
+        requires { (1 ≤ n) × (n ≤ greatest_size) }
+        ensures { (result.x ≡ point_x n k) × (result.y ≡ point_y n k) }
+    {
+        let m = n - 1;
+        if k < m {
+            Point { x: k, y: 0 }
+        } else if k < 2 * m {
+            Point { x: m, y: k - m }
+        } else if k < 3 * m {
+            Point { x: 3 * m - k, y: m }
+        } else {
+            Point {
+                x: 0,
+                y: (4 * m).saturating_sub(k),
+            }
+        }
     }
-    if k < 2 * m {
-        return k - m;
-    }
-    if k < 3 * m {
-        return m;
-    }
-    if k < 4 * m {
-        return 4 * m - k;
-    }
-    0
 }
 
 // The pattern of the candidate (s, e).
@@ -51,6 +42,5 @@ pub(crate) fn candidate_of(n: usize, s: usize, e: usize) -> Pattern
     requires { (1 ≤ n) × ((n ≤ 8) ⊎ (n ≡ greatest_size)) }
     ensures { pattern_number result ≡ wedgelet n s e }
 {
-    let h = half_of(point_x(n, s), point_y(n, s), point_x(n, e), point_y(n, e));
-    pattern_of(n, h)
+    Half::of_line(Point::on_border(n, s), Point::on_border(n, e)).pattern(n)
 }

@@ -6,4 +6,4 @@ mod entries;
 mod half;
 mod list;
 
-pub use list::{LIST_WORDS, Listed, PATTERNS, wedgelets};
+pub use list::{LIST_WORDS, PATTERNS, wedgelets};

@@ -1,13 +1,9 @@
 -- `put_samples` meets its contract: after k samples the first k places hold the block's.
-use Prim.Native.Nat.{ℕ, ◌-◌, ◌*◌, ◌/◌, ◌%◌, ◌≤◌, ◌<◌}
+use Prim.Native.Nat.{ℕ, ◌*◌, ◌/◌, ◌%◌, ◌<◌}
 use mathlib.Core.Path.{◌≡◌}
 use lib.ListN.{length, get_or}
 use Rattle.block.specs.Block.{sample}
 use Rattle.block.proofs.rows.put_samples.Given as goal
 
 abbrev pub invariant-loop-k : goal.invariant-loop-k
-invariant-loop-k l =
-    (l.k-end ≡ l.n * l.n) × (l.k ≤ l.n * l.n) × (length l.samples ≡ l.n * l.n) × ((i : ℕ) → i < l.k → get_or l.samples i 0 ≡ sample l.b (i % l.n) (i / l.n))
-
-abbrev pub decreases-loop-k : goal.decreases-loop-k
-decreases-loop-k l = l.n * l.n - l.k
+invariant-loop-k l = (length l.samples ≡ l.n * l.n) × ((i : ℕ) → i < l.k → get_or l.samples i 0 ≡ sample l.b (i % l.n) (i / l.n))

@@ -11,12 +11,14 @@ pub overflow_add-layers : goal.overflow_add-layers
 overflow_add-layers c =
     let a = c.args in
     let l = c.loop-k in
-    record { fits = equal-room a.samples.now l.k l.layers (omega arith) l.invariant.1 c.wide-v.result c.wide-v.ensures.1 }
+    let byte = (c.type_inv.samples l.k).fits in
+    record { fits = equal-room a.samples.now l.k l.layers (omega arith) l.invariant.1 c.from.result (omega arith) }
 
 pub loop-k-preserved : goal.loop-k-preserved
 loop-k-preserved c =
     let a = c.args in
-    let l = c.loop-k in (
+    let l = c.loop-k in
+    let byte = (c.type_inv.samples l.k).fits in (
       omega arith,
-      equal-more a.samples.now l.k l.layers (omega arith) l.invariant.1 c.wide-v.result c.wide-v.ensures.1 _ c.wide-v.ensures.0 refl,
+      equal-more a.samples.now l.k l.layers (omega arith) l.invariant.1 c.from.result (omega arith) _ c.from.ensures refl,
     )

@@ -1,24 +1,24 @@
--- `lengths_ok` meets its contract: each return comes of the tests that led there.
-use mathlib.Core.Path.{sym, ◌∙◌}
-use borrow.Author.Tests.{eq-eqb, ne_eqb}
+-- `lengths_ok` meets its contract: the patterns of the list are the whole ones lent.
+use native.Mathlib.Omega.{arith}
+use Rattle.std.proofs.lemmas.Bool.Decides.{nat_tests}
+use Rattle.pattern.proofs.WordLaws.{length-patterns}
 use Rattle.choice.specs.Refusal.{lengths_ok}
+use Rattle.choice.proofs.refusal.lengths_ok.Goals.{then-input-n-2, else-input-n-2, then-input-n, else-input-n}
 use Rattle.choice.proofs.refusal.lengths_ok.Goals as goal
 
-pub returns-then-neighbours-n : goal.returns-then-neighbours-n
+pub returns-then-texture_ok : goal.returns-then-texture_ok
 unfolding lengths_ok
-returns-then-neighbours-n c = rw (ne_eqb _ _ c.if-neighbours-n.true)
+returns-then-texture_ok c =
+    let l = length-patterns c.args.input.n c.args.input.list.words.now in
+    elim c.if-input-n-2.branch [
+      | then-input-n-2 v ↦ elim c.if-input-n.branch [ then-input-n w ↦ grind (arith, nat_tests) | else-input-n w ↦ grind (arith, nat_tests) ]
+      | else-input-n-2 v ↦ grind (arith, nat_tests)
+    ]
 
-pub returns-then-samples-n : goal.returns-then-samples-n
+pub returns-else-texture_ok : goal.returns-else-texture_ok
 unfolding lengths_ok
-returns-then-samples-n c = rw (eq-eqb _ _ c.if-neighbours-n.false, ne_eqb _ _ c.if-samples-n.true)
-
-pub returns-then-not-texture_ok : goal.returns-then-not-texture_ok
-unfolding lengths_ok
-returns-then-not-texture_ok c =
-    rw (eq-eqb _ _ c.if-neighbours-n.false, eq-eqb _ _ c.if-samples-n.false, sym c.texture_ok.ensures ∙ c.if-not-texture_ok.true)
-
-pub returns : goal.returns
-unfolding lengths_ok
-returns c =
-    rw (eq-eqb _ _ c.if-neighbours-n.false, eq-eqb _ _ c.if-samples-n.false, sym c.texture_ok.ensures ∙ c.if-not-texture_ok.false)
-    c.count_ok.ensures
+returns-else-texture_ok c =
+    elim c.if-input-n-2.branch [
+      | then-input-n-2 v ↦ elim c.if-input-n.branch [ then-input-n w ↦ grind (arith, nat_tests) | else-input-n w ↦ grind (arith, nat_tests) ]
+      | else-input-n-2 v ↦ elim c.if-input-n.branch [ then-input-n w ↦ grind (arith, nat_tests) | else-input-n w ↦ grind (arith, nat_tests) ]
+    ]

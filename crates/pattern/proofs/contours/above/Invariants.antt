@@ -1,5 +1,4 @@
 -- `above` meets its contract: after i samples the word holds the first i marks.
-use Prim.Native.Nat.{◌+◌, ◌-◌, ◌≤◌}
 use mathlib.Core.Path.{◌≡◌}
 use lib.ListN.{get_or}
 use lib.Dec.{ltb}
@@ -7,7 +6,4 @@ use Rattle.arith.specs.Bits.{bits}
 use Rattle.pattern.proofs.contours.above.Given as goal
 
 abbrev pub invariant-loop-i : goal.invariant-loop-i
-invariant-loop-i l = (l.i ≤ l.count) × (l.w ≡ bits (λ j. ltb l.level (get_or l.texture (l.from + j) 0)) l.i)
-
-abbrev pub decreases-loop-i : goal.decreases-loop-i
-decreases-loop-i l = l.count - l.i
+invariant-loop-i l = l.w ≡ bits (λ j. ltb l.level (get_or l.samples j 0)) l.i

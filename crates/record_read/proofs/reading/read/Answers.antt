@@ -1,102 +1,87 @@
 -- `read` meets its contract: the lengths, the lines before the records, and the sheet.
-use mathlib.Core.Path.{◌≡◌, sym, ◌∙◌, ap}
-use mathlib.Core.Bool.{true}
-use lib.ListN.{length}
-use Rattle.record_file.specs.Reading.{Aids, aids_of, file_lines, lists_ok, read_lengths_ok, ReadLengths}
+use Rattle.std.proofs.Common.{◌≡◌, sym, ◌∙◌, true, length, arith}
+use Rattle.std.proofs.lemmas.Result.{err_from_is_err_and}
+use Rattle.record_file.specs.Reading.{aids_in, file_lines, lists_ok, read_lengths_ok, ReadLengths}
 use Rattle.record_file.proofs.FileLaws.{size_small}
 use Rattle.record_file.proofs.RoundTrip.{read-lengths}
-use Rattle.record_read.specs.Told.{front_size}
-use Rattle.record_read.specs.Back.{Lent, lent_of, reading}
-use Rattle.record_read.specs.Step.{FrontRead}
-use Rattle.record_read.proofs.FrontLaws.{front-no, front-is}
-use Rattle.record_read.proofs.BackLaws.{lists-lent, read_short, read-passed, file-no, file-is, all-refused, read_as}
-use Rattle.record_read.proofs.reading.read.Goals.{After-read_lengths_ok, Else-front-ne0, Else-not-read_lengths_ok, Start}
+use Rattle.record_read.specs.Back.{lent_of, reading}
+use Rattle.record_read.specs.Step.{Counted, front_size}
+use Rattle.record_read.proofs.BackLaws.{read_short, read-passed, front-refused, file-is, all-refused, area-few, small-room}
+use Rattle.record_read.proofs.reading.read.Goals.{Else-not-lengths_ok, In_ok-front}
 use Rattle.record_read.proofs.reading.read.Goals as goal
 
--- what the file is read with, and what is lent
-abbrev aids : goal.Start → Aids
-aids d =
-    let a = d.args in
-    aids_of a.list4.now a.count4 a.list8.now a.count8 a.list16.now a.count16 a.texture.now
-
-abbrev lent : goal.Start → Lent
-lent d = lent_of d.args.samples.now d.args.records.now
-
--- the check of the lengths
-lengths :
-    (c : goal.After-read_lengths_ok)
-    → let d = (goal.at.After-read_lengths_ok c).Start in
-    c.read_lengths_ok.result ≡ read_lengths_ok (length d.args.samples.now) (length d.args.records.now) (lists_ok (aids d))
-lengths c =
-    let a = c.args in
-    let e = lists-lent a.list4.now a.list8.now a.list16.now a.count4 a.count8 a.count16 a.texture.now in
-    c.read_lengths_ok.ensures
-    ∙ ap (read_lengths_ok (length a.samples.now) (length a.records.now)) (c.lists_ok-lists.ensures ∙ e)
-
--- past it
+-- the lengths are allowed
 right :
-    (c : goal.Else-not-read_lengths_ok)
-    → let d = (goal.at.Else-not-read_lengths_ok c).Start in
-    read_lengths_ok (length d.args.samples.now) (length d.args.records.now) (lists_ok (aids d)) ≡ true
-right c = sym (lengths (goal.at.Else-not-read_lengths_ok c).After-read_lengths_ok) ∙ c.if-not-read_lengths_ok.false
-
-enough :
-    (c : goal.Else-not-read_lengths_ok)
-    → let d = (goal.at.Else-not-read_lengths_ok c).Start in ReadLengths (length d.args.samples.now) (length d.args.records.now) (aids d)
-enough c =
-    let d = (goal.at.Else-not-read_lengths_ok c).Start in
-    read-lengths (length d.args.samples.now) (length d.args.records.now) (aids d) (right c)
+    (c : goal.Else-not-lengths_ok)
+    → let a = c.args in read_lengths_ok (length a.samples.now) (length a.records.now) (lists_ok (aids_in a.input)) ≡ true
+right c = sym c.lengths_ok.ensures ∙ c.if-not-lengths_ok.false
 
 passed :
-    (c : goal.Else-not-read_lengths_ok)
-    → let d = (goal.at.Else-not-read_lengths_ok c).Start in reading (aids d) (lent d) d.args.bytes.now ≡ file_lines (aids d) d.args.bytes.now
-passed c =
-    let d = (goal.at.Else-not-read_lengths_ok c).Start in
-    read-passed (aids d) (length d.args.samples.now) (length d.args.records.now) d.args.bytes.now (right c)
+    (c : goal.Else-not-lengths_ok)
+    → let a = c.args in reading (aids_in a.input) (lent_of a.samples.now a.records.now) a.bytes.now ≡ file_lines (aids_in a.input) a.bytes.now
+passed c = let a = c.args in read-passed (aids_in a.input) (length a.samples.now) (length a.records.now) a.bytes.now (right c)
 
--- the lines before the records are read
-front : (c : goal.Else-front-ne0) → let a = c.args in FrontRead (length a.texture.now) a.bytes.now c.read_front-front.result
-front c =
+enough :
+    (c : goal.Else-not-lengths_ok) → let a = c.args in ReadLengths (length a.samples.now) (length a.records.now) (aids_in a.input)
+enough c = let a = c.args in read-lengths (length a.samples.now) (length a.records.now) (aids_in a.input) (right c)
+
+-- the count of the list for the file's size
+counted : (c : goal.In_ok-front) → Counted (aids_in c.args.input) c.in_ok-front.front.sheet.n
+counted c =
     let a = c.args in
-    front-is (length a.texture.now) a.bytes.now c.read_front-front.result c.read_front-front.ensures c.if-front-ne0.false
+    let p = goal.at.In_ok-front c in
+    let l = enough p.Else-not-lengths_ok in
+    let n = c.in_ok-front.front.sheet.n in
+    let size = (size_small (length a.input.texture.now) (front_size c.in_ok-front.front) c.in_ok-front.ensures.sound.size).size in
+    record { inside = l.inside n size; few = l.few n size }
 
-pub returns-then-not-read_lengths_ok : goal.returns-then-not-read_lengths_ok
-returns-then-not-read_lengths_ok c =
-    let p = goal.at.returns-then-not-read_lengths_ok c in
-    let A = aids p.Start in
-    all-refused A (lent p.Start)
-    (read_short A (length c.args.samples.now) (length c.args.records.now) c.args.bytes.now
-    (sym (lengths p.After-read_lengths_ok) ∙ c.if-not-read_lengths_ok.true))
-    c.refused_at.ensures
-
-pub returns-then-front-ne0 : goal.returns-then-front-ne0
-returns-then-front-ne0 c =
-    let p = goal.at.returns-then-front-ne0 c in
+pub returns-then-not-lengths_ok : goal.returns-then-not-lengths_ok
+returns-then-not-lengths_ok c =
     let a = c.args in
-    all-refused (aids p.Start) (lent p.Start)
-    (passed p.Else-not-read_lengths_ok
-    ∙ file-no (aids p.Start) a.bytes.now
-    (front-no (length a.texture.now) a.bytes.now c.read_front-front.result c.read_front-front.ensures c.if-front-ne0.true))
-    c.refused_at-then-front-ne0.ensures
+    all-refused (aids_in a.input) (lent_of a.samples.now a.records.now)
+    (sym (read_short (aids_in a.input) (length a.samples.now) (length a.records.now) a.bytes.now (sym c.lengths_ok.ensures ∙ c.if-not-lengths_ok.true)))
 
-pub read_sheet-requires : goal.read_sheet-requires
-read_sheet-requires c =
-    let p = goal.at.read_sheet-requires c in
-    let n = c.read_front-front.result.n in
-    let lent = enough p.Else-not-read_lengths_ok in
-    let front = front p.Else-front-ne0 in
-    let size = (size_small (length c.args.texture.now) (front_size c.read_front-front.result) front.size).size in
-    record {
-      front_read =
-          (front, rw (c.list_for-list.ensures, c.count_for-count.ensures) (record { inside = lent.inside n size; few = lent.few n size }));
-      enough_lent = (lent.samples_lent, lent.records_lent);
-    }
-
-pub returns : goal.returns
-returns c =
-    let p = goal.at.returns c in
+pub returns-in_err-front : goal.returns-in_err-front
+returns-in_err-front c =
     let a = c.args in
-    let f = c.read_front-front.result in
-    read_as a.list4.now a.list8.now a.list16.now a.count4 a.count8 a.count16 a.texture.now a.bytes.now f
-    c.list_for-list.ensures c.count_for-count.ensures
-    (passed p.Else-not-read_lengths_ok ∙ file-is (aids p.Start) a.bytes.now f (front p.Else-front-ne0)) c.read_sheet.ensures
+    let p = goal.at.returns-in_err-front c in
+    let q = err_from_is_err_and c.from_residual.result c.from_residual.ensures.1 in
+    rw (q.1, q.2, passed p.Else-not-lengths_ok)
+    (all-refused (aids_in a.input) (lent_of a.samples.now a.records.now) (front-refused (aids_in a.input) a.bytes.now c.in_err-front.ensures))
+
+pub read_with-requires-clause-counted : goal.read_with-requires-clause-counted
+read_with-requires-clause-counted c = counted (goal.at.read_with-requires-clause-counted c).In_ok-front
+
+pub read_with-requires-clause-has_room : goal.read_with-requires-clause-has_room
+read_with-requires-clause-has_room c =
+    small-room (aids_in c.args.input) c.in_ok-front.front c.in_ok-front.ensures.sound (omega arith) (omega arith)
+
+pub read_with-requires-else-area-le-SMALL_SAMPLES-clause-counted : goal.read_with-requires-else-area-le-SMALL_SAMPLES-clause-counted
+read_with-requires-else-area-le-SMALL_SAMPLES-clause-counted c =
+    counted (goal.at.read_with-requires-else-area-le-SMALL_SAMPLES-clause-counted c).In_ok-front
+
+pub read_with-requires-else-area-le-SMALL_SAMPLES-clause-has_room : goal.read_with-requires-else-area-le-SMALL_SAMPLES-clause-has_room
+read_with-requires-else-area-le-SMALL_SAMPLES-clause-has_room c =
+    let few = area-few (aids_in c.args.input) c.in_ok-front.front c.in_ok-front.ensures.sound in
+    small-room (aids_in c.args.input) c.in_ok-front.front c.in_ok-front.ensures.sound few (omega arith)
+
+pub read_with-requires-clause-fits : goal.read_with-requires-clause-fits
+read_with-requires-clause-fits c =
+    let l = enough (goal.at.read_with-requires-clause-fits c).Else-not-lengths_ok in
+    (omega (arith, l.samples_lent), omega (arith, l.records_lent))
+
+pub read_with-requires-else-area-le-SMALL_SAMPLES-clause-fits : goal.read_with-requires-else-area-le-SMALL_SAMPLES-clause-fits
+read_with-requires-else-area-le-SMALL_SAMPLES-clause-fits c =
+    let l = enough (goal.at.read_with-requires-else-area-le-SMALL_SAMPLES-clause-fits c).Else-not-lengths_ok in
+    (l.samples_lent, l.records_lent)
+
+pub returns-then-area-le-SMALL_SAMPLES : goal.returns-then-area-le-SMALL_SAMPLES
+returns-then-area-le-SMALL_SAMPLES c =
+    let p = goal.at.returns-then-area-le-SMALL_SAMPLES c in
+    rw (passed p.Else-not-lengths_ok, file-is (aids_in c.args.input) c.args.bytes.now c.in_ok-front.front c.in_ok-front.ensures) c.read_with.ensures
+
+pub returns-else-area-le-SMALL_SAMPLES : goal.returns-else-area-le-SMALL_SAMPLES
+returns-else-area-le-SMALL_SAMPLES c =
+    let p = goal.at.returns-else-area-le-SMALL_SAMPLES c in
+    rw (passed p.Else-not-lengths_ok, file-is (aids_in c.args.input) c.args.bytes.now c.in_ok-front.front c.in_ok-front.ensures)
+    c.read_with-else-area-le-SMALL_SAMPLES.ensures

@@ -5,8 +5,8 @@ use Rattle.record_write.proofs.writing.put_head.Goals as goal
 
 pub returns : goal.returns
 returns c =
-    let t = c.put_size_title-title in
+    let t = c.put_title-title in
     let z = c.put_size_line-line in
-    let d = c.put_depth_title in
+    let d = c.put_title in
     head-written c.args.sheet c.args.values c.requires.0 (record { at = 0 }) t.result z.result d.result refl c.requires.1 t.ensures z.ensures
     d.ensures

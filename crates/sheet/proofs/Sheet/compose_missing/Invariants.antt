@@ -1,17 +1,18 @@
 -- `compose_missing` meets its contract: the loop keeps `Going`.
-use Prim.Native.Nat.{◌-◌, ◌≤◌}
+use Prim.Native.Nat.{◌-◌}
+use mathlib.Core.List.{◌++◌}
 use mathlib.Core.Path.{◌≡◌}
-use lib.ListN.{length}
-use Rattle.sheet.specs.Compose.{lent_task}
+use lib.ListN.{length, drop}
+use Rattle.sheet.specs.Told.{task_in}
 use Rattle.sheet.proofs.TurnLaws.{Going}
 use Rattle.sheet.proofs.Sheet.compose_missing.Given as goal
 
-abbrev pub invariant-loop-block : goal.invariant-loop-block
-invariant-loop-block l =
+abbrev pub invariant-loop-record : goal.invariant-loop-record
+invariant-loop-record l =
     let S = l.initial.self in
-    (l.first ≤ l.block)
-    × (l.block ≤ l.last)
-    × (length l.samples ≡ length l.initial.samples)
-    × (length l.records ≡ length l.initial.records)
-    × Going S (lent_task S l.list l.count l.table l.texture l.original l.reach) l.initial.samples l.initial.records
-    (l.block - l.first) l.self l.samples l.records
+    record {
+      whole : length l.samples ≡ length l.initial.samples;
+      room : length l.record-items ≡ l.last - l.first;
+      going : Going S (task_in S.n l.input) l.initial.samples l.fn.records l.record-index l.self l.samples
+          (l.record-items ++ drop (l.last - l.first) l.fn.records);
+    }

@@ -1,26 +1,26 @@
 -- `choose_at` meets its contract, by what the choice answers.
-use Rattle.pattern.specs.Words.{patterns_of}
-use Rattle.choice.specs.Case.{Case, case_of}
-use Rattle.sheet.proofs.ComposeLaws.{chosen-drawn, chosen-never}
-use Rattle.sheet.proofs.drawing.choose_at.Goals.{Start}
+use mathlib.Core.Path.{◌∙◌}
+use Rattle.choice.specs.Case.{case_in}
+use Rattle.sheet.proofs.ComposeLaws.{chosen-accepted, chosen-drawn, chosen-never}
+use Rattle.sheet.proofs.RefusalLaws.{number_some}
 use Rattle.sheet.proofs.drawing.choose_at.Goals as goal
 
--- the case of the choice
-abbrev case : goal.Start → Case
-case d =
-    let a = d.args in
-    case_of a.n (patterns_of a.n a.list.now) a.count a.near.now a.own.now a.table.now a.reach a.light.now
-
-pub returns-in-Chosen : goal.returns-in-Chosen
-returns-in-Chosen c =
+pub returns-in_err-choice-clause-left : goal.returns-in_err-choice-clause-left
+returns-in_err-choice-clause-left c =
     let a = c.args in
-    let C = case (goal.at.returns-in-Chosen c).Start in
-    let told = c.in-Chosen.ensures.answered in
-    record { answered = told; left = chosen-drawn a.width a.x a.y C a.samples.now told c.draw.ensures.left }
+    chosen-never (case_in a.case) a.spot.width a.spot.x a.spot.y a.samples.now c.in_err-choice.ensures.answered
 
-pub returns-in-Refused : goal.returns-in-Refused
-returns-in-Refused c =
+pub returns-in_err-draw : goal.returns-in_err-draw
+returns-in_err-draw c =
+    absurd
+    (number_some c.in_err-draw.field-0.0
+    (c.in_err-draw.ensures.number ∙ chosen-accepted (case_in c.args.case) c.in_ok-choice.ensures.answered))
+
+pub returns : goal.returns
+returns c =
     let a = c.args in
-    let C = case (goal.at.returns-in-Refused c).Start in
-    let told = c.in-Refused.ensures.answered in
-    record { answered = told; left = chosen-never a.width a.x a.y C a.samples.now told }
+    let told = c.in_ok-choice.ensures.answered in
+    record {
+      answered = told;
+      left = chosen-drawn (case_in a.case) told a.spot.width a.spot.x a.spot.y a.samples.now c.draw.ensures.left;
+    }

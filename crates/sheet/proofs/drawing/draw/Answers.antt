@@ -1,77 +1,92 @@
 -- `draw` meets its contract, by what the record means.
 use borrow.Author.Rules.{rules}
-use mathlib.Core.List.{[]}
+use mathlib.Core.Bool.{true}
 use mathlib.Core.Path.{◌≡◌, sym, ap, ◌∙◌}
 use mir.Syntax.{w32}
 use mir.Val.{SFits}
 use mir.ValLaws.{to_z-of_z}
-use Rattle.pattern.specs.Words.{pattern_number, patterns_of}
-use Rattle.choice.specs.Case.{Case, case_of}
+use Rattle.arith.proofs.CheckLaws.{given-never, given-same}
+use Rattle.pattern.specs.Refusal.{number_of}
+use Rattle.pattern.specs.Size.{size_ok}
+use Rattle.pattern.specs.Words.{pattern_number}
+use Rattle.choice.specs.Case.{Case, case_in}
 use Rattle.choice.specs.Record.{pattern_of}
 use Rattle.sheet.specs.Place.{draw_refusal}
 use Rattle.sheet.proofs.DrawLaws.{drawable-as}
-use Rattle.sheet.proofs.MeaningLaws.{case-named, case-listed, case-contour, case-lit, case-drawable, case-drawn, case-refused}
-use Rattle.sheet.proofs.drawing.draw.Goals.{Joined-meaning_of, Start, in-Listed, in-Contour}
+use Rattle.sheet.proofs.MeaningLaws.{contour-given, case-named, case-listed, case-contour, case-lit, case-drawable, case-drawn, case-refused, textured-by}
+use Rattle.sheet.proofs.drawing.draw.Goals.{Joined-branch-2, Start, in-Listed, in-Contour+in_ok-pattern-in-Contour}
 use Rattle.sheet.proofs.drawing.draw.Goals as goal
 
--- the case that the record is drawn for
+-- the case that the record is drawn for, and the refusal of the record
 abbrev case : goal.Start → Case
-case d =
-    let a = d.args in
-    case_of a.n (patterns_of a.n a.list.now) a.count a.near.now [] a.table.now 0 a.light.now
+case d = case_in d.args.case
 
--- its offsets as the code holds them
 fits0 : (d : goal.Start) → SFits w32 d.args.r.off0
 fits0 d = search rules
 
 fits1 : (d : goal.Start) → SFits w32 d.args.r.off1
 fits1 d = search rules
 
-pub contour_of-p-requires : goal.contour_of-p-requires
-contour_of-p-requires c =
-    let C = case (goal.at.contour_of-p-requires c).Start in
-    (c.requires.0.size, case-lit C c.args.r _ c.in-Contour.ensures c.requires.1)
+-- its size is allowed
+sized : (d : goal.Start) → size_ok d.args.case.n ≡ true
+sized d = rw d.requires.here d.args.spot.sized
 
-pub returns-in-Refused : goal.returns-in-Refused
-returns-in-Refused c =
+pub returns-in_err-p : goal.returns-in_err-p
+returns-in_err-p c =
     let a = c.args in
-    let q = case-refused (case (goal.at.returns-in-Refused c).Start) a.r a.width a.x a.y a.samples.now c.in-Refused.ensures in
-    record { number = q.0; left = q.1 }
+    let told = rw (textured-by a.case.texture.now c.is_empty-textured.ensures) at c.in_err-p.ensures in
+    let q = case-refused (case_in a.case) a.r a.spot.width a.spot.x a.spot.y a.samples.now told in
+    let number : number_of c.in_err-p.field-0.0 ≡ draw_refusal (case_in a.case) a.r = q.0 in
+    record { number = search rules; left = q.1 }
+
+pub returns-in_err-pattern-in-Contour : goal.returns-in_err-pattern-in-Contour
+returns-in_err-pattern-in-Contour c =
+    let a = c.args in
+    let told = rw (textured-by a.case.texture.now c.is_empty-textured.ensures, c.in-Contour.is) at c.in_ok-p.ensures in
+    given-never
+    (c.in_err-pattern-in-Contour.ensures
+    ∙ contour-given a.case.n a.case.texture.now (sized (goal.at.returns-in_err-pattern-in-Contour c).Start)
+    (case-lit (case_in a.case) a.r _ told c.requires.lit))
 
 -- a record that is not refused, and its pattern
 named :
-    (c : goal.Joined-meaning_of)
-    → let C = case (goal.at.Joined-meaning_of c).Start in
-    (draw_refusal C c.args.r ≡ 0) × (pattern_number c.match-meaning_of.p ≡ pattern_of C c.args.r)
+    (c : goal.Joined-branch-2)
+    → let C = case (goal.at.Joined-branch-2 c).Start in
+    (draw_refusal C c.args.r ≡ 0) × (pattern_number c.match-branch-2.pattern ≡ pattern_of C c.args.r)
 named c =
-    let r = c.args.r in
-    let C = case (goal.at.Joined-meaning_of c).Start in
-    elim c.match-meaning_of.branch [
+    let a = c.args in
+    let C = case_in a.case in
+    let said = rw (textured-by a.case.texture.now c.is_empty-textured.ensures) at c.in_ok-p.ensures in
+    elim c.match-branch-2.branch [
       | in-Listed w ↦
-          let e = w.in-Listed.ensures in
-          (case-named C r e, ap pattern_number w.p-is ∙ case-listed C r e)
-      | in-Contour w ↦
-          let e = w.in-Contour.ensures in
-          (case-named C r e, ap pattern_number w.p-is ∙ w.contour_of-p.ensures ∙ case-contour C r e)
+          let e = rw w.in-Listed.is at said in
+          (case-named C a.r e, ap pattern_number w.pattern-is ∙ case-listed C a.r e)
+      | in-Contour+in_ok-pattern-in-Contour w ↦
+          let e = rw w.in-Contour.is at said in
+          let full = case-lit C a.r _ e c.requires.lit in (
+            case-named C a.r e,
+            ap pattern_number w.pattern-is
+                ∙ given-same (w.in_ok-pattern-in-Contour.ensures ∙ contour-given a.case.n a.case.texture.now (sized (goal.at.Joined-branch-2 c).Start) full)
+                ∙ case-contour C a.r e,
+          )
     ]
 
-pub draw_pattern-requires : goal.draw_pattern-requires
-draw_pattern-requires c =
+pub predicted_block-requires-clause-drawable : goal.predicted_block-requires-clause-drawable
+predicted_block-requires-clause-drawable c =
     let r = c.args.r in
-    let d = (goal.at.draw_pattern-requires c).Start in
-    let q = named (goal.at.draw_pattern-requires c).Joined-meaning_of in (
-      c.requires.0,
-      drawable-as (sym (to_z-of_z w32 r.off0 (fits0 d))) (sym (to_z-of_z w32 r.off1 (fits1 d)))
-          (case-drawable (case d) r q.0 q.1 c.requires.2),
-    )
+    let d = (goal.at.predicted_block-requires-clause-drawable c).Start in
+    let q = named (goal.at.predicted_block-requires-clause-drawable c).Joined-branch-2 in
+    drawable-as (sym (to_z-of_z w32 r.off0 (fits0 d))) (sym (to_z-of_z w32 r.off1 (fits1 d)))
+    (case-drawable (case d) r q.0 q.1 c.requires.valued)
 
 pub returns : goal.returns
 returns c =
     let a = c.args in
     let d = (goal.at.returns c).Start in
-    let p = named (goal.at.returns c).Joined-meaning_of in
+    let p = named (goal.at.returns c).Joined-branch-2 in
+    let put = rw (← c.requires.here, c.in_ok-b.ensures) at c.put.ensures in
     let q =
-    case-drawn (case d) a.r p.0 a.width a.x a.y a.samples.now p.1
-    (to_z-of_z w32 a.r.off0 (fits0 d)) (to_z-of_z w32 a.r.off1 (fits1 d)) c.draw_pattern.ensures
+    case-drawn (case d) a.r p.0 a.spot.width a.spot.x a.spot.y a.samples.now p.1
+    (to_z-of_z w32 a.r.off0 (fits0 d)) (to_z-of_z w32 a.r.off1 (fits1 d)) put
     in
     record { number = q.0; left = q.1 }

@@ -1,13 +1,9 @@
--- `row_at` meets its contract: after i samples the first i places are filled.
-use mathlib.Core.Path.{refl, sym}
+-- `row_at` meets its contract: the samples are copied to the front of the row.
 use native.Mathlib.Omega.{arith}
-use borrow.Author.Rules.{rules}
-use Rattle.arith.proofs.ListLaws.{upto-none, fill-by}
-use Rattle.block.specs.Block.{capacity}
+use Rattle.sheet.proofs.RowLaws.{row-copied}
 use Rattle.sheet.proofs.samples.row_at.Goals as goal
 
-pub loop-i-init : goal.loop-i-init
-loop-i-init c = (omega arith, sym (upto-none capacity _ 0))
-
-pub loop-i-preserved : goal.loop-i-preserved
-loop-i-preserved c = (search rules, fill-by capacity _ _ 0 c.loop-i.invariant.1 refl (omega arith))
+pub returns : goal.returns
+returns c =
+    let a = c.args in
+    row-copied a.n a.at a.samples.now _ (omega arith) c.copy_from_slice.ensures.after c.requires.0 c.requires.1

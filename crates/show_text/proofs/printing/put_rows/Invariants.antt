@@ -1,5 +1,4 @@
 -- `put_rows`: a number and the byte after it for each sample so far.
-use Prim.Native.Nat.{◌-◌, ◌≤◌}
 use mathlib.Core.Path.{◌≡◌}
 use lib.ListN.{length}
 use Rattle.arith.specs.Lists.{list_of}
@@ -11,8 +10,4 @@ use Rattle.show_text.proofs.printing.put_rows.Given as goal
 abbrev pub invariant-loop-i : goal.invariant-loop-i
 invariant-loop-i l =
     (Written l.initial.out l.out l.initial.next.at (texts (sample_text l.width l.samples) (list_of (λ k. k) l.i)) l.next.at)
-    × (l.i ≤ l.i-end)
     × (length l.out ≡ length l.initial.out)
-
-abbrev pub decreases-loop-i : goal.decreases-loop-i
-decreases-loop-i l = l.i-end - l.i

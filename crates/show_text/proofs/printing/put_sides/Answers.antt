@@ -13,7 +13,7 @@ put_pair-sides-requires c =
 pub returns : goal.returns
 unfolding sides_title
 returns c =
-    let d = c.put_depth_title in
+    let d = c.put_title in
     let q = c.put_pair-sides in
     let t = c.put_text-title in
     let a = c.args in

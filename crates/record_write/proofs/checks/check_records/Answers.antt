@@ -1,0 +1,9 @@
+-- `check_records` meets its contract: at first there is no record.
+use Rattle.pattern.specs.Words.{patterns_of}
+use Rattle.record_write.proofs.FirstLaws.{first_none}
+use Rattle.record_write.proofs.checks.check_records.Goals as goal
+
+pub loop-r-init : goal.loop-r-init
+loop-r-init c =
+    let a = c.args in
+    first_none a.n (patterns_of a.n a.list.words.now) a.list.count a.values a.records.now
