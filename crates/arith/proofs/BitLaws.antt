@@ -18,7 +18,7 @@ bit_test true = refl
 bit_test false = refl
 
 -- a digit times a power is at most the power
-digit-le : (b : Bool) (p : ℕ) → bit b * p ≤ p
+pub digit-le : (b : Bool) (p : ℕ) → bit b * p ≤ p
 digit-le true p = omega arith
 digit-le false p = omega arith
 

@@ -1,15 +1,22 @@
--- What follows where no check fails.
+-- What follows where no check fails, and that a refusal has a number.
 use Prim.Native.Nat.{ℕ, ◌*◌, ◌≤◌}
 use mathlib.Core.Bool.{true, or-true}
 use mathlib.Core.Logic.{◌⊎◌, inl, inr, ⊎_elim}
 use mathlib.Core.Path.{◌≡◌}
+use native.Mathlib.Omega.{arith}
 use borrow.Author.Tests.{eq-eqb, eqb-true, le-leb, leb-true}
 use lib.Dec.{eqb, leb}
 use Rattle.arith.proofs.Bools.{both_of, either-of}
 use Rattle.arith.proofs.CheckLaws.{passed}
 use Rattle.pattern.specs.Size.{greatest_size, size_ok}
 use Rattle.pattern.specs.Answer.{count_ok, texture_ok, samples_refusal}
+use Rattle.pattern.specs.Refusal.{number_of}
+use Rattle.pattern.specs.declared.refusals.Refusal.{Refusal}
 use Rattle.pattern.proofs.SizeLaws.{size-bounds}
+
+-- no refusal has the number 0
+pub number-some : (f : Refusal) → number_of f ≡ 0 → ⊥
+number-some f = grind arith
 
 -- n * n samples of an allowed size
 pub record SamplesFit (n samples : ℕ) : Type 0 where

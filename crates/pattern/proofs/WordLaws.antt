@@ -1,23 +1,29 @@
 -- Patterns as words: four words and their number, and the patterns of a list of words.
 use Prim.Native.Nat.{ℕ, zero, suc, ◌+◌, ◌-◌, ◌*◌, ◌/◌, ◌%◌, ◌^◌, ◌≤◌, ◌<◌, min}
-use mathlib.Core.Bool.{Bool, true, false, cond, ◌&&◌, and-true}
-use mathlib.Core.List.{List, [], ◌∷◌, ◌++◌, append_assoc}
+use mathlib.Core.Bool.{Bool, true, false, cond, ◌&&◌, and-true, and-false}
+use mathlib.Core.List.{List, [], ◌∷◌, ◌++◌, append-nil, append_assoc}
 use mathlib.Core.Logic.{◌⊎◌, ⊎_elim, inl, inr}
 use mathlib.Core.Path.{◌≡◌, refl, sym, ap, ap₂, ◌∙◌, subst}
 use native.Mathlib.Nat.{add-zero, div-one, mul-suc, suc-mul, div-add-mod', le_trans, lt_of_lt_of_le, mod-eq_of_lt, mul_comm, le-div_iff_mul-le}
-use native.Mathlib.Decide.{dec_le, ℕ_discrete}
+use native.Mathlib.Decide.{dec_le, dec_lt}
 use native.Mathlib.Omega.{arith}
-use borrow.Author.Tests.{le-leb, lt-leb, lt-ltb, le-ltb, eq-eqb, ne_eqb}
+use borrow.Author.Tests.{le-leb, lt-leb, lt-ltb, le-ltb}
 use lib.Arith.{digits_lt}
-use lib.Count.{ones, ones_cat}
+use lib.Bits.{bit_and, bit_xor, and_block, xor_block}
+use lib.Count.{ones, ones_cat, ones-le}
 use lib.Dec.{leb, ltb, eqb}
 use lib.ListN.{length, get_or, take, length-append, get_or-append, get_or-eq_default}
 use lib.Seq.{length-take-le, get_or-take, ext_get_or}
 use lib.Pow.{high, low, pow-add, pow_mono, shr-shr}
+use Rattle.std.specs.Bool.{MatchBool}
+use Rattle.std.specs.List.{range_with_len, AllWithin, HoldsAt, sum_by}
+use Rattle.std.proofs.NetLemmas.Arrays.{four_items}
+use Rattle.std.proofs.lemmas.List.FromFn.{length-range_with_len, get_or-range_with_len}
 use Rattle.arith.specs.Bits.{bits, test_bit}
-use Rattle.arith.proofs.BitLaws.{bits-append, bits-ext, low_bit, high_bit}
+use Rattle.arith.proofs.BitLaws.{bits-append, bits-ext, low_bit, high_bit, bit_past}
 use Rattle.arith.proofs.ListLaws.{length-list_of, list_of-at, list_of-ext, list_of-own}
 use Rattle.pattern.proofs.SizeLaws.{shifted_none, square-64}
+use Rattle.pattern.specs.Size.{greatest_samples}
 use Rattle.pattern.specs.declared.words.Pattern.{Pattern}
 use Rattle.pattern.specs.Words.{joined, four_words, pattern_number, used_number, greatest_words, words_of, whole_patterns, four_at, pattern_at, patterns_of, in_four, in_words, word_list}
 
@@ -96,28 +102,19 @@ four-words-same a b c d a' b' c' d' p q r p' q' r' e =
     let g = same-high x b x' b' q q' f in
     (same_low (joined x b) a (joined x' b') a' p p' e, same_low x b x' b' q q' f, same_low d c d' c' r r' g, same-high d c d' c' r r' g)
 
--- words that agree but for the last: a test of the last is one of the numbers
-pub four-eqb :
-    (a b c d a' b' c' d' : ℕ) → a < 2 ^ 64 → b < 2 ^ 64 → c < 2 ^ 64 → a ≡ a' → b ≡ b' → c ≡ c'
-    → eqb d d' ≡ eqb (four_words a b c d) (four_words a' b' c' d')
-four-eqb a b c d a' b' c' d' p q r x y z = go (ℕ_discrete d d')
-  where
-    go : Dec (d ≡ d') → eqb d d' ≡ eqb (four_words a b c d) (four_words a' b' c' d')
-    go (yes e) = eq-eqb d d' e ∙ sym (eq-eqb _ _ (four_same x y z e))
-    go (no e) =
-        ne_eqb d d' e
-        ∙ sym
-        (ne_eqb _ _
-        (λ f. e (four-words-same a b c d a' b' c' d' p q r (subst (λ (t : ℕ). t < 2 ^ 64) x p) (subst (λ (t : ℕ). t < 2 ^ 64) y q) (subst (λ (t : ℕ). t < 2 ^ 64) z r) f).3))
+-- four words have no bit from 256 up
+pub four-lt : (a b c d : ℕ) → a < 2 ^ 64 → b < 2 ^ 64 → c < 2 ^ 64 → d < 2 ^ 64 → four_words a b c d < 2 ^ 256
+unfolding four_words
+four-lt a b c d p q r s = cat-lt 192 64 (cat-lt 128 64 (cat-lt 64 64 s r) q) p
 
 -- ---- bits of four words
 
 module _ (a b c d k : ℕ) where
-  pub bit-in-0 : k < 64 → test_bit (four_words a b c d) k ≡ test_bit a k
+  bit-in-0 : k < 64 → test_bit (four_words a b c d) k ≡ test_bit a k
   unfolding four_words
   bit-in-0 h = low_bit 64 (joined (joined d c) b) a k h
 
-  pub bit-in-1 : a < 2 ^ 64 → 64 ≤ k → k < 128 → test_bit (four_words a b c d) k ≡ test_bit b (k - 64)
+  bit-in-1 : a < 2 ^ 64 → 64 ≤ k → k < 128 → test_bit (four_words a b c d) k ≡ test_bit b (k - 64)
   unfolding four_words
   bit-in-1 p l h = high_bit 64 (joined (joined d c) b) a k p l ∙ low_bit 64 (joined d c) b (k - 64) (omega arith)
 
@@ -129,24 +126,92 @@ module _ (a b c d k : ℕ) where
       ∙ high_bit 64 (joined d c) b (k - 64) q (omega arith)
       ∙ ap (test_bit (joined d c)) e
 
-  pub bit-in-2 : a < 2 ^ 64 → b < 2 ^ 64 → 128 ≤ k → k < 192 → test_bit (four_words a b c d) k ≡ test_bit c (k - 128)
+  bit-in-2 : a < 2 ^ 64 → b < 2 ^ 64 → 128 ≤ k → k < 192 → test_bit (four_words a b c d) k ≡ test_bit c (k - 128)
   bit-in-2 p q l h = past-1 p q l ∙ low_bit 64 d c (k - 128) (omega arith)
 
-  pub bit-in-3 : a < 2 ^ 64 → b < 2 ^ 64 → c < 2 ^ 64 → 192 ≤ k → test_bit (four_words a b c d) k ≡ test_bit d (k - 192)
+  bit-in-3 : a < 2 ^ 64 → b < 2 ^ 64 → c < 2 ^ 64 → 192 ≤ k → test_bit (four_words a b c d) k ≡ test_bit d (k - 192)
   bit-in-3 p q r l =
       let e : k - 128 - 64 ≡ k - 192 = omega arith in
       past-1 p q (omega arith) ∙ high_bit 64 d c (k - 128) r (omega arith) ∙ ap (test_bit d) e
 
--- a sum of four, by its terms
-pub sum-of-four : {a b c d a' b' c' d' : ℕ} → a ≡ a' → b ≡ b' → c ≡ c' → d ≡ d' → a + b + c + d ≡ a' + b' + c' + d'
-sum-of-four p q r s = λ i. p i + q i + r i + s i
+-- bit k of four words is bit k % 64 of word k / 64, and none from 256 up
+module _ (l : List ℕ) (k : ℕ) (p : get_or l 0 0 < 2 ^ 64) (q : get_or l 1 0 < 2 ^ 64) (r : get_or l 2 0 < 2 ^ 64) where
+  in-word : (w j : ℕ) → k / 64 ≡ w → k % 64 ≡ j → test_bit (get_or l w 0) j ≡ test_bit (get_or l (k / 64) 0) (k % 64)
+  in-word w j e m = λ i. test_bit (get_or l (sym e i) 0) (sym m i)
+
+  pub four_bit : k / 64 < 4 → test_bit (four_at l 0) k ≡ test_bit (get_or l (k / 64) 0) (k % 64)
+  four_bit h =
+      elim (dec_lt k 64) [
+        | yes a ↦ bit-in-0 _ _ _ _ k a ∙ in-word 0 k (omega arith) (omega arith)
+        | no a ↦
+            elim (dec_lt k 128) [
+              | yes b ↦ bit-in-1 _ _ _ _ k p (omega arith) b ∙ in-word 1 (k - 64) (omega arith) (omega arith)
+              | no b ↦
+                  elim (dec_lt k 192) [
+                    | yes c ↦ bit-in-2 _ _ _ _ k p q (omega arith) c ∙ in-word 2 (k - 128) (omega arith) (omega arith)
+                    | no c ↦ bit-in-3 _ _ _ _ k p q r (omega arith) ∙ in-word 3 (k - 192) (omega arith) (omega arith)
+                  ]
+            ]
+      ]
+
+  pub four_past : get_or l 3 0 < 2 ^ 64 → 4 ≤ k / 64 → ltb (k / 64) 4 ≡ test_bit (four_at l 0) k
+  four_past s h = le-ltb (k / 64) 4 h ∙ sym (bit_past 256 (four_at l 0) k (four-lt _ _ _ _ p q r s) (omega arith))
 
 -- the count of ones, word by word
-pub four-ones : (a b c d : ℕ) → a < 2 ^ 64 → b < 2 ^ 64 → c < 2 ^ 64 → ones (four_words a b c d) ≡ ones d + ones c + ones b + ones a
+four-ones : (a b c d : ℕ) → a < 2 ^ 64 → b < 2 ^ 64 → c < 2 ^ 64 → ones (four_words a b c d) ≡ ones d + ones c + ones b + ones a
 unfolding four_words
 four-ones a b c d p q r =
     ones_cat 64 (joined (joined d c) b) a p
     ∙ ap (λ (x : ℕ). x + ones a) (ones_cat 64 (joined d c) b q ∙ ap (λ (x : ℕ). x + ones b) (ones_cat 64 d c r))
+
+-- the sum of the words' counts of ones, at most 64 each
+module _ (l : List ℕ) (e : length l ≡ 4) (p : get_or l 0 0 < 2 ^ 64) (q : get_or l 1 0 < 2 ^ 64) (r : get_or l 2 0 < 2 ^ 64) where
+  pub sum_of_ones : sum_by ones l ≡ ones (four_at l 0)
+  sum_of_ones =
+      ap (sum_by ones) (four_items l e)
+      ∙ (let f : 0 + ones (get_or l 0 0) + ones (get_or l 1 0) + ones (get_or l 2 0) + ones (get_or l 3 0) ≡ ones (get_or l 3 0) + ones (get_or l 2 0) + ones (get_or l 1 0) + ones (get_or l 0 0) = omega arith in f)
+      ∙ sym (four-ones _ _ _ _ p q r)
+
+  pub ones_few : get_or l 3 0 < 2 ^ 64 → ones (four_at l 0) ≤ greatest_samples
+  ones_few s = omega (arith, four-ones _ _ _ (get_or l 3 0) p q r, ones-le 64 _ p, ones-le 64 _ q, ones-le 64 _ r, ones-le 64 _ s)
+
+-- ---- two patterns, word by word
+
+module _ (op : ℕ → ℕ → ℕ) (block : (k a b r s : ℕ) → r < 2 ^ k → s < 2 ^ k → op (a * 2 ^ k + r) (b * 2 ^ k + s) ≡ op a b * 2 ^ k + op r s) where
+  by-words :
+      (a b c d a' b' c' d' : ℕ) → a < 2 ^ 64 → b < 2 ^ 64 → c < 2 ^ 64 → a' < 2 ^ 64 → b' < 2 ^ 64 → c' < 2 ^ 64
+      → op (four_words a b c d) (four_words a' b' c' d') ≡ four_words (op a a') (op b b') (op c c') (op d d')
+  unfolding four_words
+  by-words a b c d a' b' c' d' p q r p' q' r' =
+      block 64 (joined (joined d c) b) (joined (joined d' c') b') a a' p p'
+      ∙ ap (λ (x : ℕ). joined x (op a a'))
+      (block 64 (joined d c) (joined d' c') b b' q q' ∙ ap (λ (x : ℕ). joined x (op b b')) (block 64 d d' c c' r r'))
+
+-- the marks in which two patterns differ
+pub four-xor :
+    (a b c d a' b' c' d' : ℕ) → a < 2 ^ 64 → b < 2 ^ 64 → c < 2 ^ 64 → a' < 2 ^ 64 → b' < 2 ^ 64 → c' < 2 ^ 64
+    → four_words (bit_xor a a') (bit_xor b b') (bit_xor c c') (bit_xor d d') ≡ bit_xor (four_words a b c d) (four_words a' b' c' d')
+four-xor a b c d a' b' c' d' p q r p' q' r' = sym (by-words bit_xor xor_block a b c d a' b' c' d' p q r p' q' r')
+
+-- the marks that two patterns share
+pub four-and :
+    (a b c d a' b' c' d' : ℕ) → a < 2 ^ 64 → b < 2 ^ 64 → c < 2 ^ 64 → a' < 2 ^ 64 → b' < 2 ^ 64 → c' < 2 ^ 64
+    → four_words (bit_and a a') (bit_and b b') (bit_and c c') (bit_and d d') ≡ bit_and (four_words a b c d) (four_words a' b' c' d')
+four-and a b c d a' b' c' d' p q r p' q' r' = sym (by-words bit_and and_block a b c d a' b' c' d' p q r p' q' r')
+
+-- the same of lists of four words
+module _ (r p q : List ℕ) (a : get_or p 0 0 < 2 ^ 64) (b : get_or p 1 0 < 2 ^ 64) (c : get_or p 2 0 < 2 ^ 64) (a' : get_or q 0 0 < 2 ^ 64) (b' : get_or q 1 0 < 2 ^ 64) (c' : get_or q 2 0 < 2 ^ 64) where
+  pub common_words :
+      get_or r 0 0 ≡ bit_and (get_or p 0 0) (get_or q 0 0) → get_or r 1 0 ≡ bit_and (get_or p 1 0) (get_or q 1 0)
+      → get_or r 2 0 ≡ bit_and (get_or p 2 0) (get_or q 2 0) → get_or r 3 0 ≡ bit_and (get_or p 3 0) (get_or q 3 0)
+      → four_at r 0 ≡ bit_and (four_at p 0) (four_at q 0)
+  common_words e f g h = four_same e f g h ∙ four-and _ _ _ _ _ _ _ _ a b c a' b' c'
+
+  pub different_words :
+      get_or r 0 0 ≡ bit_xor (get_or p 0 0) (get_or q 0 0) → get_or r 1 0 ≡ bit_xor (get_or p 1 0) (get_or q 1 0)
+      → get_or r 2 0 ≡ bit_xor (get_or p 2 0) (get_or q 2 0) → get_or r 3 0 ≡ bit_xor (get_or p 3 0) (get_or q 3 0)
+      → four_at r 0 ≡ bit_xor (four_at p 0) (four_at q 0)
+  different_words e f g h = four_same e f g h ∙ four-xor _ _ _ _ _ _ _ _ a b c a' b' c'
 
 -- a number has no bit from k up where neither part has one
 below-part : (h l k : ℕ) → l < 2 ^ 64 → ltb (joined h l) (2 ^ k) ≡ (ltb h (2 ^ (k - 64)) && ltb l (2 ^ k))
@@ -181,10 +246,50 @@ four_below a b c d k p q r =
     ∙ ap (λ (t : Bool). t && ltb a (2 ^ k))
     (below-part (joined d c) b (k - 64) q ∙ ap (λ (t : Bool). t && ltb b (2 ^ (k - 64))) (below-part d c (k - 64 - 64) r))
 
--- four words have no bit from 256 up
-pub four-lt : (a b c d : ℕ) → a < 2 ^ 64 → b < 2 ^ 64 → c < 2 ^ 64 → d < 2 ^ 64 → four_words a b c d < 2 ^ 256
-unfolding four_words
-four-lt a b c d p q r s = cat-lt 192 64 (cat-lt 128 64 (cat-lt 64 64 s r) q) p
+-- four words have no bit from k up where word i has none from k - 64 * i up, and have one where a word has
+module _ (l : List ℕ) (k : ℕ) (p : get_or l 0 0 < 2 ^ 64) (q : get_or l 1 0 < 2 ^ 64) (r : get_or l 2 0 < 2 ^ 64) where
+  abbrev below_at : ℕ → Bool
+  below_at i = ltb (get_or l i 0) (2 ^ (k - 64 * i))
+
+  below-each : ltb (four_at l 0) (2 ^ k) ≡ (((below_at 3 && below_at 2) && below_at 1) && below_at 0)
+  below-each =
+      let third : k - 64 - 64 - 64 ≡ k - 64 * 3 = omega arith in
+      let second : k - 64 - 64 ≡ k - 64 * 2 = omega arith in
+      let first : k - 64 ≡ k - 64 * 1 = omega arith in
+      let whole : k ≡ k - 64 * 0 = omega arith in
+      four_below (get_or l 0 0) (get_or l 1 0) (get_or l 2 0) (get_or l 3 0) k p q r
+      ∙ (λ i.
+      ((ltb (get_or l 3 0) (2 ^ third i) && ltb (get_or l 2 0) (2 ^ second i)) && ltb (get_or l 1 0) (2 ^ first i)) && ltb (get_or l 0 0) (2 ^ whole i))
+
+  all_below : ((i : ℕ) → i < 4 → below_at i ≡ true) → ltb (four_at l 0) (2 ^ k) ≡ true
+  all_below h = below-each ∙ (λ i. ((h 3 (omega arith) i && h 2 (omega arith) i) && h 1 (omega arith) i) && h 0 (omega arith) i)
+
+  none-of : (a b c d : Bool) (i : ℕ) → i < 4 → (i ≡ 0 → d ≡ false) → (i ≡ 1 → c ≡ false) → (i ≡ 2 → b ≡ false) → (i ≡ 3 → a ≡ false) → (((a && b) && c) && d) ≡ false
+  none-of a b c d zero h e f g j = rw (e refl) (and-false ((a && b) && c))
+  none-of a b c d (suc zero) h e f g j = rw (f refl, and-false (a && b)) refl
+  none-of a b c d (suc (suc zero)) h e f g j = rw (g refl, and-false a) refl
+  none-of a b c d (suc (suc (suc zero))) h e f g j = rw (j refl) refl
+  none-of a b c d (suc (suc (suc (suc i)))) h e f g j = absurd (omega arith)
+
+  one_above : (i : ℕ) → i < 4 → below_at i ≡ false → ltb (four_at l 0) (2 ^ k) ≡ false
+  one_above i h e =
+      below-each
+      ∙ none-of _ _ _ _ i h (λ z. ap below_at (sym z) ∙ e) (λ z. ap below_at (sym z) ∙ e) (λ z. ap below_at (sym z) ∙ e) (λ z. ap below_at (sym z) ∙ e)
+
+-- what `all` over the words finds
+range-at : (i : ℕ) → i < 4 → get_or (range_with_len 0 4) i 0 ≡ i
+range-at i h = get_or-range_with_len 0 4 i 0 h ∙ omega arith
+
+module _ (l : List ℕ) (k : ℕ) (p : get_or l 0 0 < 2 ^ 64) (q : get_or l 1 0 < 2 ^ 64) (r : get_or l 2 0 < 2 ^ 64) where
+  pub below_found :
+      (b : Bool) → let s = range_with_len 0 4 in
+      MatchBool b (AllWithin (λ i. ltb (get_or l i 0) (2 ^ (k - 64 * i)) ≡ true) s 0 (length s))
+      ((i : ℕ) × (i < length s) × HoldsAt (λ i. ltb (get_or l i 0) (2 ^ (k - 64 * i)) ≡ false) s i)
+      → b ≡ ltb (four_at l 0) (2 ^ k)
+  below_found true h = sym (all_below l k p q r (λ i g. rw (range-at i g) at (h i 0 (omega arith) (omega (arith, g, length-range_with_len 0 4)))))
+  below_found false h =
+      let g : h.0 < 4 = omega (arith, h.1, length-range_with_len 0 4) in
+      sym (one_above l k p q r h.0 g (rw (range-at h.0 g) at (h.2 0)))
 
 -- a number of 64 bits is its first word
 pub first_word : (a b c d : ℕ) → a < 2 ^ 64 → four_words a b c d < 2 ^ 64 → four_words a b c d ≡ a
@@ -201,6 +306,15 @@ in-four a b c d p q r =
     let z = ap (λ (t : ℕ). t / 2 ^ 64) y ∙ high d 64 r in
     λ i.
     low (joined (joined d c) b) 64 p i ∷ (ap (λ (t : ℕ). t % 2 ^ 64) x ∙ low (joined d c) 64 q) i ∷ (ap (λ (t : ℕ). t % 2 ^ 64) y ∙ low d 64 r) i ∷ z i ∷ []
+
+-- four words of 64 bits are those of their number
+pub four-own : (w : List ℕ) → length w ≡ 4 → ((i : ℕ) → get_or w i 0 < 2 ^ 64) → in_four (four_at w 0) ≡ w
+four-own [] e h = absurd (omega arith)
+four-own (a ∷ []) e h = absurd (omega arith)
+four-own (a ∷ b ∷ []) e h = absurd (omega arith)
+four-own (a ∷ b ∷ c ∷ []) e h = absurd (omega arith)
+four-own (a ∷ b ∷ c ∷ d ∷ []) e h = in-four a b c d (h 0) (h 1) (h 2)
+four-own (a ∷ b ∷ c ∷ d ∷ x ∷ t) e h = absurd (omega arith)
 
 -- four words of a number are that number
 four-in : (w : ℕ) → four_words (w % 2 ^ 64) (w / 2 ^ 64 % 2 ^ 64) (w / 2 ^ 64 / 2 ^ 64 % 2 ^ 64) (w / 2 ^ 64 / 2 ^ 64 / 2 ^ 64) ≡ w
@@ -222,7 +336,7 @@ width_narrow n h = rw (le-leb n 8 h)
 pub width-wide : (n : ℕ) → 8 < n → words_of n ≡ 4
 width-wide n h = rw (lt-leb n 8 h)
 
-pub width-pos : (n : ℕ) → 0 < words_of n
+width-pos : (n : ℕ) → 0 < words_of n
 width-pos n = go (leb n 8)
   where
     go : (b : Bool) → 0 < cond b 1 4
@@ -230,11 +344,6 @@ width-pos n = go (leb n 8)
     go false = omega arith
 
 -- room for one entry more
-pub room-narrow : (n entry words : ℕ) → n ≤ 8 → words_of n * (entry + 1) ≤ words → entry < words
-room-narrow n entry words h r =
-    let l : 1 * (entry + 1) ≤ words = subst (λ (m : ℕ). m * (entry + 1) ≤ words) (width_narrow n h) r in
-    omega arith
-
 pub room-wide : (n entry words : ℕ) → 8 < n → words_of n * (entry + 1) ≤ words → 4 * entry + 4 ≤ words
 room-wide n entry words h r =
     let l : 4 * (entry + 1) ≤ words = subst (λ (m : ℕ). m * (entry + 1) ≤ words) (width-wide n h) r in
@@ -245,10 +354,10 @@ pub number-narrow : (n a b c d : ℕ) → n ≤ 8 → a < 2 ^ 64 → four_words 
 number-narrow n a b c d h p l = first_word a b c d p (lt_of_lt_of_le l (pow_mono (square-64 h)))
 
 -- a pattern handed in that marks samples of the block only is the one it stands for
-pub used-is : (n : ℕ) (p : Pattern) → p.w0 < 2 ^ 64 → pattern_number p < 2 ^ (n * n) → used_number n p ≡ pattern_number p
+pub used-is : (n : ℕ) (p : Pattern) → get_or p.words 0 0 < 2 ^ 64 → pattern_number p < 2 ^ (n * n) → used_number n p ≡ pattern_number p
 used-is n p h l =
     ⊎_elim
-    (λ (s : n ≤ 8). rw (le-leb n 8 s) (sym (number-narrow n p.w0 p.w1 p.w2 p.w3 s h l)))
+    (λ (s : n ≤ 8). rw (le-leb n 8 s) (sym (number-narrow n _ _ _ _ s h l)))
     (λ (s : 8 < n). rw (lt-leb n 8 s))
     (narrow-or-wide n)
 
@@ -274,24 +383,20 @@ length-words n [] = omega arith
 length-words n (w ∷ k) =
     omega (arith, length-append (in_words n w) (word_list n k), length-in n w, length-words n k, mul-suc (words_of n) (length k))
 
-append-none : (l : List ℕ) → l ++ [] ≡ l
-append-none [] = refl
-append-none (a ∷ l) = ap (λ (t : List ℕ). a ∷ t) (append-none l)
-
 pub words-end : (n : ℕ) (k : List ℕ) (w : ℕ) → word_list n (k ++ (w ∷ [])) ≡ word_list n k ++ in_words n w
 unfolding word_list
-words-end n [] w = append-none (in_words n w)
+words-end n [] w = append-nil (in_words n w)
 words-end n (a ∷ k) w = ap (λ (t : List ℕ). in_words n a ++ t) (words-end n k w) ∙ sym (append_assoc (in_words n a) (word_list n k) (in_words n w))
 
 -- for n up to 8 patterns and words are the same
-pub words-narrow : (n : ℕ) (k : List ℕ) → n ≤ 8 → word_list n k ≡ k
+words-narrow : (n : ℕ) (k : List ℕ) → n ≤ 8 → word_list n k ≡ k
 unfolding word_list in_words
 words-narrow n [] h = refl
 words-narrow n (w ∷ k) h = rw (le-leb n 8 h) (ap (λ (t : List ℕ). w ∷ t) (words-narrow n k h))
 
 -- ---- the patterns of a list of words
 
-pub whole-narrow : (n words : ℕ) → n ≤ 8 → whole_patterns n words ≡ words
+whole-narrow : (n words : ℕ) → n ≤ 8 → whole_patterns n words ≡ words
 whole-narrow n words h = rw (le-leb n 8 h) (div-one words)
 
 pub whole_wide : (n words : ℕ) → 8 < n → whole_patterns n words ≡ words / 4

@@ -1,6 +1,7 @@
 -- The refusals and their numbers, and what a call's result says in these numbers.
-use Rattle.std.specs.Prelude.{ℕ, Bool, true, false, Result, Ok, Err}
+use Rattle.std.specs.Prelude.{ℕ, ◌≡◌, Bool, true, false, Result, Ok, Err}
 use Rattle.arith.specs.Checks.{Answer, refused, given}
+use Rattle.pattern.specs.Size.{size_ok}
 use Rattle.pattern.specs.declared.refusals.Refusal.{Refusal}
 use Rattle.pattern.specs.declared.refusals.Refusal.TheVariants as refusal
 
@@ -21,6 +22,10 @@ number_of refusal.NoTexture = 21
 number_of refusal.Missing = 22
 number_of refusal.Placed = 23
 number_of refusal.OffsetPastTable = 24
+
+-- a number is refused as a size: it is not an allowed one
+abbrev pub IsSizeRefusal : ℕ → Refusal → Type 0
+IsSizeRefusal n r = (size_ok n ≡ false) × (r ≡ refusal.Size)
 
 -- what a check answers
 abbrev pub checked : Bool → Refusal → Result Unit Refusal

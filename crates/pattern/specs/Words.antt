@@ -11,9 +11,13 @@ joined high low = high * 2 ^ 64 + low
 unfoldable pub four_words : ℕ → ℕ → ℕ → ℕ → ℕ
 four_words w0 w1 w2 w3 = joined (joined (joined w3 w2) w1) w0
 
+-- the pattern of the four words from one place of a list on
+abbrev pub four_at : List ℕ → ℕ → ℕ
+four_at words at = four_words (get_or words at 0) (get_or words (at + 1) 0) (get_or words (at + 2) 0) (get_or words (at + 3) 0)
+
 -- the natural number that a `Pattern` is
 abbrev pub pattern_number : Pattern → ℕ
-pattern_number p = four_words p.w0 p.w1 p.w2 p.w3
+pattern_number p = four_at p.words 0
 
 -- the words of a pattern of the greatest block
 abbrev pub greatest_words : ℕ
@@ -25,17 +29,13 @@ words_of n = cond (leb n 8) 1 greatest_words
 
 -- the pattern of n by n samples that a `Pattern` handed in stands for: up to 8 by 8 its first word alone, whatever the others hold
 abbrev pub used_number : ℕ → Pattern → ℕ
-used_number n p = cond (leb n 8) p.w0 (pattern_number p)
+used_number n p = cond (leb n 8) (get_or p.words 0 0) (pattern_number p)
 
 -- ---- a lent list is words; its patterns
 
 -- how many whole patterns so many words are
 abbrev pub whole_patterns : ℕ → ℕ → ℕ
 whole_patterns n words = words / words_of n
-
--- the pattern of the four words from one place of a list on
-abbrev pub four_at : List ℕ → ℕ → ℕ
-four_at words at = four_words (get_or words at 0) (get_or words (at + 1) 0) (get_or words (at + 2) 0) (get_or words (at + 3) 0)
 
 -- the pattern at an entry: its word, or its four words
 unfoldable pub pattern_at : ℕ → List ℕ → ℕ → ℕ

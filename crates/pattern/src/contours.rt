@@ -1,31 +1,40 @@
 // The contour of a block's texture.
-ghost use Rattle.std.specs.Prelude.{◌≡◌, ◌*◌, ◌≤◌, ltb, length, get_or};
+ghost use Rattle.std.specs.Prelude.{◌≡◌, ◌*◌, ◌≤◌, ltb, length, get_or, IfOk};
 ghost use Rattle.arith.specs.Bits.{bits};
-ghost use Rattle.pattern.specs.Size.{greatest_size};
 ghost use Rattle.pattern.specs.Contour.{threshold};
 ghost use Rattle.pattern.specs.Answer.{samples_refusal, contour_answer};
 ghost use Rattle.pattern.specs.Refusal.{refusal_in, told};
 ghost use Rattle.pattern.specs.Words.{pattern_number};
 
 use crate::refusals::{Refusal, check};
-use crate::size::size_ok;
+use crate::size::Size;
 use crate::words::Pattern;
 
-// Refuses a size that is not allowed, and a block of another number of samples.
+// The size of a block of so many samples. Refuses a size that is not allowed, and a block of another number of samples.
 #[tactic(auto, unfolding(crate::specs::Answer::samples_refusal))]
+fn size_of(n: usize, samples: usize) -> Result<Size, Refusal>
+    ensures { (refusal_in result ≡ samples_refusal n samples) × IfOk result (λ size. (size.n ≡ n) × (samples ≡ n * n)) }
+{
+    let size = Size::try_from(n)?;
+    check(samples == n * n, Refusal::Length)?;
+    Ok(size)
+}
+
+// Refuses a size that is not allowed, and a block of another number of samples.
 pub fn check_samples(n: usize, samples: usize) -> Result<(), Refusal>
     ensures { refusal_in result ≡ samples_refusal n samples }
 {
-    check(size_ok(n), Refusal::Size)?;
-    check(samples == n * n, Refusal::Length)
+    size_of(n, samples)?;
+    Ok(())
 }
 
 // The sum of the four corner samples divided by 4, rounded down.
 #[tactic(auto, unfolding(crate::specs::Contour::threshold))]
-fn threshold(n: usize, texture: &[u8]) -> u32
-    requires { (1 ≤ n) × (n ≤ greatest_size) × (length texture.now ≡ n * n) }
-    ensures { result ≡ threshold n texture.now }
+fn threshold(size: Size, texture: &[u8]) -> u32
+    requires { length texture.now ≡ size.n * size.n }
+    ensures { result ≡ threshold size.n texture.now }
 {
+    let n = size.n;
     let last = n - 1;
     let top = u32::from(texture[0]) + u32::from(texture[last]);
     let bottom = u32::from(texture[last * n]) + u32::from(texture[last * n + last]);
@@ -50,16 +59,18 @@ fn above(samples: &[u8], level: u32) -> u64
 pub fn contour(n: usize, texture: &[u8]) -> Result<Pattern, Refusal>
     ensures { told pattern_number result ≡ contour_answer n texture.now }
 {
-    check_samples(n, texture.len())?;
-    let level = threshold(n, texture);
+    let size = size_of(n, texture.len())?;
+    let level = threshold(size, texture);
     let end = texture.len();
     let second = end.min(64);
     let third = end.min(128);
     let fourth = end.min(192);
     Ok(Pattern {
-        w0: above(&texture[..second], level),
-        w1: above(&texture[second..third], level),
-        w2: above(&texture[third..fourth], level),
-        w3: above(&texture[fourth..], level),
+        words: [
+            above(&texture[..second], level),
+            above(&texture[second..third], level),
+            above(&texture[third..fourth], level),
+            above(&texture[fourth..], level),
+        ],
     })
 }

@@ -45,6 +45,14 @@ impl From<Refusal> for u8 {
     }
 }
 
+impl From<Refusal> for u32 {
+    ghost from_gives = { λ r k. k ≡ number_of r };
+
+    fn from(refusal: Refusal) -> u32 {
+        refusal as u32
+    }
+}
+
 // Refuses where a check does not hold.
 pub fn check(ok: bool, refusal: Refusal) -> Result<(), Refusal>
     ensures { result ≡ checked ok refusal }

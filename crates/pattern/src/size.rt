@@ -1,6 +1,9 @@
 // The allowed sizes, and what a block of the greatest size has.
-ghost use Rattle.std.specs.Prelude.{◌≡◌};
-ghost use Rattle.pattern.specs.Size.{size_ok};
+ghost use Rattle.std.specs.Prelude.{◌≡◌, ◌*◌, ◌<◌, ◌≤◌, true, MatchResult};
+ghost use Rattle.pattern.specs.Size.{greatest_size, greatest_samples, size_ok};
+ghost use Rattle.pattern.specs.Refusal.{IsSizeRefusal};
+
+use crate::refusals::{Refusal, check};
 
 // The greatest block size.
 pub const GREATEST_SIZE: usize = 16;
@@ -16,4 +19,26 @@ pub fn size_ok(n: usize) -> bool
     ensures { result ≡ size_ok n }
 {
     matches!(n, 4 | 8 | GREATEST_SIZE)
+}
+
+// An allowed block size. One above 8 is the greatest.
+#[derive(Clone, Copy, Debug, PartialEq, Eq)]
+pub struct Size {
+    pub n: usize,
+    ghost allowed: { size_ok n ≡ true },
+    ghost low: { 4 ≤ n },
+    ghost high: { n ≤ greatest_size },
+    ghost wide: { 8 < n → n ≡ greatest_size },
+    ghost square: { n * n ≤ greatest_samples },
+}
+
+impl TryFrom<usize> for Size {
+    type Error = Refusal;
+
+    ghost try_from_gives = { λ n answer. MatchResult answer (λ size. size.n ≡ n) (IsSizeRefusal n) };
+
+    fn try_from(n: usize) -> Result<Size, Refusal> {
+        check(size_ok(n), Refusal::Size)?;
+        Ok(Size { n })
+    }
 }

@@ -1,5 +1,6 @@
 // A pattern as four words of 64 bits, and a lent list of patterns.
 ghost use Rattle.std.specs.Prelude.{◌≡◌, ◌+◌, ◌^◌, ◌≤◌, ltb, length, get_or};
+ghost use Rattle.std.specs.Int.Bits.{bit_and, bit_xor};
 ghost use Rattle.std.specs.Int.Count.{ones};
 ghost use Rattle.arith.specs.Bits.{test_bit};
 ghost use Rattle.pattern.specs.Answer.{count_ok};
@@ -7,6 +8,7 @@ ghost use Rattle.pattern.specs.Size.{greatest_samples, word_ok};
 ghost use Rattle.pattern.specs.Words.{pattern_number, used_number, words_of, whole_patterns, four_at, patterns_of};
 
 use crate::size::GREATEST_SIZE;
+use std::ops::{BitAnd, BitXor};
 
 // The words of a pattern of the greatest block.
 pub const WORDS: usize = 4;
@@ -14,17 +16,7 @@ pub const WORDS: usize = 4;
 // A pattern: bit k is bit k % 64 of word k / 64. For n up to 8 the first word holds all of it.
 #[derive(Clone, Copy, Debug, PartialEq, Eq)]
 pub struct Pattern {
-    pub w0: u64,
-    pub w1: u64,
-    pub w2: u64,
-    pub w3: u64,
-}
-
-// Bit k of a word.
-fn bit_at(word: u64, k: usize) -> bool
-    ensures { result ≡ test_bit word k }
-{
-    k < 64 && (word >> k) % 2 == 1
+    pub words: [u64; WORDS],
 }
 
 // Whether a word has no bit from k up.
@@ -40,10 +32,7 @@ impl Pattern {
         ensures { pattern_number result ≡ word }
     {
         Pattern {
-            w0: word,
-            w1: 0,
-            w2: 0,
-            w3: 0,
+            words: [word, 0, 0, 0],
         }
     }
 
@@ -52,7 +41,7 @@ impl Pattern {
         ensures { pattern_number result ≡ used_number n self }
     {
         if n <= 8 {
-            Pattern::of_word(self.w0)
+            Pattern::of_word(self.words[0])
         } else {
             self
         }
@@ -62,37 +51,46 @@ impl Pattern {
     pub fn mark_at(self, k: usize) -> bool
         ensures { result ≡ test_bit (pattern_number self) k }
     {
-        if k < 64 {
-            return bit_at(self.w0, k);
-        }
-        if k < 128 {
-            return bit_at(self.w1, k - 64);
-        }
-        if k < 192 {
-            return bit_at(self.w2, k - 128);
-        }
-        bit_at(self.w3, k - 192)
+        k / 64 < WORDS && (self.words[k / 64] >> (k % 64)) % 2 == 1
     }
 
     // Whether the pattern has no bit from n * n up.
     pub fn fits(self, n: usize) -> bool
         ensures { result ≡ word_ok n (pattern_number self) }
     {
-        if GREATEST_SIZE <= n {
-            return true;
-        }
-        let k = n * n;
-        word_below(self.w3, k.saturating_sub(192))
-            & word_below(self.w2, k.saturating_sub(128))
-            & word_below(self.w1, k.saturating_sub(64))
-            & word_below(self.w0, k)
+        GREATEST_SIZE <= n
+            || (0..WORDS).all(|i| word_below(self.words[i], (n * n).saturating_sub(64 * i)))
     }
 
     // The number of marks.
     pub fn marks(self) -> u32
         ensures { (result ≡ ones (pattern_number self)) × (result ≤ greatest_samples) }
     {
-        self.w3.count_ones() + self.w2.count_ones() + self.w1.count_ones() + self.w0.count_ones()
+        self.words.iter().map(|word| word.count_ones()).sum()
+    }
+}
+
+impl BitAnd for Pattern {
+    type Output = Pattern;
+
+    ghost bitand_gives = { λ p q r. pattern_number r ≡ bit_and (pattern_number p) (pattern_number q) };
+
+    fn bitand(self, other: Pattern) -> Pattern {
+        Pattern {
+            words: std::array::from_fn(|i| self.words[i] & other.words[i]),
+        }
+    }
+}
+
+impl BitXor for Pattern {
+    type Output = Pattern;
+
+    ghost bitxor_gives = { λ p q r. pattern_number r ≡ bit_xor (pattern_number p) (pattern_number q) };
+
+    fn bitxor(self, other: Pattern) -> Pattern {
+        Pattern {
+            words: std::array::from_fn(|i| self.words[i] ^ other.words[i]),
+        }
     }
 }
 
@@ -117,7 +115,8 @@ pub fn count_ok(patterns: usize, count: usize) -> bool
     count <= patterns && count <= 9999
 }
 
-// A lent list of patterns, in words, and how many of its patterns count.
+// A lent list of patterns, in words, and how many of its patterns count. It is a slice with a count beside it, since C lends the count;
+// a call judges it.
 #[derive(Clone, Copy)]
 pub struct PatternList<'a> {
     pub words: &'a [u64],
@@ -130,10 +129,7 @@ fn four_at(words: &[u64], at: usize) -> Pattern
     ensures { pattern_number result ≡ four_at words.now at }
 {
     Pattern {
-        w0: words[at],
-        w1: words[at + 1],
-        w2: words[at + 2],
-        w3: words[at + 3],
+        words: std::array::from_fn(|i| words[at + i]),
     }
 }
 
@@ -152,7 +148,8 @@ impl<'a> PatternList<'a> {
         count_ok(self.whole_patterns(n), self.count)
     }
 
-    // The pattern at an entry; no marks where the list has no whole pattern there.
+    // The pattern at an entry; no marks where the list has no whole pattern there. It refuses nothing, and never
+    // could: a caller that has to know checks the entry first.
     pub fn pattern_at(self, n: usize, entry: usize) -> Pattern
         ensures { pattern_number result ≡ get_or (patterns_of n self.entry.words.now) entry 0 }
     {
