@@ -1,7 +1,7 @@
 -- Laws of blocks, over the capacity m and the size n.
 use Prim.Native.Nat.{ℕ, zero, suc, ◌+◌, ◌*◌, ◌/◌, ◌%◌, ◌≤◌, ◌<◌}
 use mathlib.Core.List.{List, [], ◌∷◌, ◌++◌}
-use mathlib.Core.Path.{◌≡◌, sym, ap, ap₂, ◌∙◌}
+use mathlib.Core.Path.{◌≡◌, refl, sym, ap, ap₂, ◌∙◌}
 use native.Mathlib.Omega.{arith}
 use lib.Arith.{digits_div, digits_mod}
 use lib.ListN.{length, get_or, drop, replicate}
@@ -25,6 +25,23 @@ module _ {A : Type 0} where
   filled_up zero (suc n) f z (a ∷ l) e h p = absurd (omega arith)
   filled_up (suc m) (suc n) f z (a ∷ l) e h p =
       ap₂ (λ (b : A) (r : List A). b ∷ r) (p 0 (omega arith)) (filled_up m n (λ i. f (suc i)) z l (omega arith) (omega arith) (λ k lt. p (suc k) (omega arith)))
+
+-- values at each place: those of f below n, and z from there on
+pub upto_made :
+    (m n : ℕ) (f : ℕ → ℕ) (z : ℕ) (l : List ℕ) → length l ≡ m → n ≤ m → ((k : ℕ) → k < m → (k < n → get_or l k z ≡ f k) × (n ≤ k → get_or l k z ≡ z))
+    → l ≡ upto m n f z
+unfolding upto
+upto_made zero zero f z [] e h p = refl
+upto_made zero (suc n) f z [] e h p = absurd (omega arith)
+upto_made zero n f z (a ∷ l) e h p = absurd (omega arith)
+upto_made (suc m) n f z [] e h p = absurd (omega arith)
+upto_made (suc m) zero f z (a ∷ l) e h p =
+    ap₂ (λ (b : ℕ) (r : List ℕ). b ∷ r) ((p 0 (omega arith)).1 (omega arith))
+    (upto_made m zero f z l (omega arith) (omega arith) (λ k lt. (λ i. absurd (omega arith), λ i. (p (suc k) (omega arith)).1 (omega arith))) ∙ upto-none m f z)
+upto_made (suc m) (suc n) f z (a ∷ l) e h p =
+    ap₂ (λ (b : ℕ) (r : List ℕ). b ∷ r) ((p 0 (omega arith)).0 (omega arith))
+    (upto_made m n (λ i. f (suc i)) z l (omega arith) (omega arith)
+    (λ k lt. (λ i. (p (suc k) (omega arith)).0 (omega arith), λ i. (p (suc k) (omega arith)).1 (omega arith))))
 
 -- sample (x, y) of the block of f is f x y
 pub sample-at : (m n : ℕ) (f : ℕ → ℕ → ℕ) (x y : ℕ) → n ≤ m → x < n → y < n → sample (block_by m n f) x y ≡ f x y

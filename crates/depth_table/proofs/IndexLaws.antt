@@ -1,16 +1,15 @@
--- Laws of the index of a depth: it is that of the nearest value as document 01 says, and no other is; and the steps of the loop
--- that finds it.
+-- Laws of the index of a depth: it is that of the nearest value as document 01 says, and no other is; and without
+-- a value it is 0.
 use Prim.Native.Nat.{ℕ, zero, suc, ◌-◌, ◌≤◌, ◌<◌}
-use mathlib.Core.Path.{◌≡◌, refl, sym, ap, ◌∙◌}
+use mathlib.Core.Path.{◌≡◌, refl, sym}
 use mathlib.Core.Bool.{Bool, true, false, cond}
 use mathlib.Core.List.{List}
 use mathlib.Core.Logic.{⊎_elim}
 use native.Mathlib.Omega.{arith}
 use native.Mathlib.Nat.{eq-or-lt_of_le}
-use native.Mathlib.Numerals.{sub-one}
 use lib.ListN.{length, get_or}
 use lib.Dec.{leb}
-use borrow.Author.Tests.{le-leb, lt-leb, leb-true, leb-false}
+use borrow.Author.Tests.{leb-true, leb-false}
 use Rattle.arith.specs.Distance.{dist}
 use Rattle.depth_table.specs.Table.{table_ok, nearest_to, index_of}
 use Rattle.depth_table.specs.Nearest.{Nearest}
@@ -57,26 +56,6 @@ module _ (t : List ℕ) (d : ℕ) where
       go : (r : ℕ) → Last k r → (b : Bool) → leb (away (suc k)) (away r) ≡ b → Last (suc k) (cond b (suc k) r)
       go r p true e = last-new k r p (leb-true (away (suc k)) (away r) e)
       go r p false e = last-old k r p (leb-false (away (suc k)) (away r) e)
-
-  -- ---- the loop: of the values before k the best is at r; the value at k is taken or passed
-
-  pub nearest-none : 0 ≡ nearest_to t d 0
-  unfolding nearest_to
-  nearest-none = refl
-
-  pub nearest-taken : (k r : ℕ) → r ≡ nearest_to t d (k - 1) → away k ≤ away r → k ≡ nearest_to t d k
-  unfolding nearest_to
-  nearest-taken zero r e l = refl
-  nearest-taken (suc k) r e l = let e' : r ≡ nearest_to t d k = rw sub-one at e in rw (← e', le-leb (away (suc k)) (away r) l)
-
-  pub nearest-passed : (k r : ℕ) → r ≡ nearest_to t d (k - 1) → away r < away k → r ≡ nearest_to t d k
-  unfolding nearest_to
-  nearest-passed zero r e l = e
-  nearest-passed (suc k) r e l = let e' : r ≡ nearest_to t d k = rw sub-one at e in rw (← e', lt-leb (away (suc k)) (away r) l)
-
-  pub nearest-end : (k r : ℕ) → r ≡ nearest_to t d k → k ≡ length t - 1 → r ≡ index_of t d
-  unfolding index_of
-  nearest-end k r e q = e ∙ ap (nearest_to t d) q
 
   -- ---- the laws
 

@@ -1,6 +1,6 @@
 -- Laws of the value at an index plus an offset: its range, and the steps in which the code finds it.
 use Prim.Native.Nat.{ℕ, ◌-◌, ◌^◌, ◌<◌, min}
-use mathlib.Core.Path.{◌≡◌, ap, ◌∙◌}
+use mathlib.Core.Path.{◌≡◌, ap}
 use mathlib.Core.Bool.{true}
 use mathlib.Core.List.{List}
 use native.Mathlib.Omega.{arith}
@@ -48,8 +48,3 @@ nearest-given t d some = rw some
 pub value-given : (t : List ℕ) (i : ℕ) (off : ℤ) → some_value t ≡ true → offset_ok off ≡ true → value_answer t i off ≡ given (value_of t i off)
 unfolding value_answer
 value-given t i off some o = rw (some, o)
-
--- the two steps to a level
-pub level-found : (t : List ℕ) (d : ℕ) {i v : ℕ} (off : ℤ) → i ≡ index_of t d → v ≡ value_of t i off → v ≡ level_of t d off
-unfolding level_of
-level-found t d off e p = p ∙ ap (λ (x : ℕ). value_of t x off) e

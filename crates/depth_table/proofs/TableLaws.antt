@@ -123,6 +123,10 @@ table_counted t h some few e = rw (lt-ltb 0 (length t) some, le-leb (length t) 2
 pub table-counts : (t : List ℕ) → table_ok t ≡ true → (1 ≤ length t) × (length t ≤ most_values)
 table-counts t h = let s = table-sound t h in (s.some, s.few)
 
+-- so at least one
+pub valued : (t : List ℕ) → true ≡ table_ok t → 0 < length t
+valued t h = (table-counts t (sym h)).0
+
 -- each 0 to 255 (past its end a list reads 0)
 pub table-bytes : (t : List ℕ) → table_ok t ≡ true → (i : ℕ) → get_or t i 0 < 256
 table-bytes t h = bytes-at t (table-sound t h).small

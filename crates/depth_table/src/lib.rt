@@ -3,12 +3,12 @@
 
 mod offset;
 
-ghost use Rattle.std.specs.Prelude.{◌≡◌};
+ghost use Rattle.std.specs.Prelude.{◌≡◌, ◌<◌, length, MatchOption};
 ghost use Rattle.pattern.specs.Refusal.{told};
 ghost use Rattle.depth_table.specs.Table.{rising, table_ok, index_of};
 ghost use Rattle.depth_table.specs.Answer.{nearest_answer, index_answer, place};
 
-pub use offset::{offsets_ok, offsets_usable, value_at};
+pub use offset::{check_offsets, offsets_ok, offsets_usable, value_at};
 use pattern::{Refusal, check};
 
 // A depth value, 0 to 255.
@@ -37,17 +37,15 @@ pub fn is_table(table: &[u8]) -> bool
     (1..=VALUES).contains(&table.len()) && is_rising(table)
 }
 
-// The index of the value nearest to d; of two equally near, the later, which in a rising table is the greater.
-fn nearest(table: &[u8], d: DepthValue) -> DepthIndex
-    ensures { result.0 ≡ index_of table.now d.0 }
+// The index of the value nearest to d; of two equally near, the later, which in a rising table is the greater. None without a value.
+fn nearest(table: &[u8], d: DepthValue) -> Option<DepthIndex>
+    ensures { let t = table.now in MatchOption result (length t ≡ 0) (λ k. (0 < length t) × (k.0 ≡ index_of t d.0)) }
 {
-    let mut best = 0;
-    for (k, &value) in table.iter().enumerate() {
-        if d.0.abs_diff(value) <= d.0.abs_diff(table[best]) {
-            best = k;
-        }
-    }
-    DepthIndex(best)
+    let distances = table.iter().map(|&value| d.0.abs_diff(value));
+    let nearest = distances
+        .enumerate()
+        .reduce(|best, next| if next.1 <= best.1 { next } else { best });
+    nearest.map(|(k, _)| DepthIndex(k))
 }
 
 // The index of the value nearest to d of any values, rising or not: of two equally near, the later; or refusal 3 where there is none.
@@ -55,15 +53,14 @@ fn nearest(table: &[u8], d: DepthValue) -> DepthIndex
 pub fn nearest_index(table: &[u8], d: DepthValue) -> Result<DepthIndex, Refusal>
     ensures { told place result ≡ nearest_answer table.now d.0 }
 {
-    check(!table.is_empty(), Refusal::Table)?;
-    Ok(nearest(table, d))
+    nearest(table, d).ok_or(Refusal::Table)
 }
 
 // The index of a depth, or refusal 3 where the table is not sound.
-#[tactic(auto, unfolding(crate::specs::Answer::index_answer, crate::specs::Answer::index_refusal))]
+#[tactic(auto, using(crate::proofs::TableLaws::valued), unfolding(crate::specs::Answer::index_answer, crate::specs::Answer::index_refusal))]
 pub fn index_of(table: &[u8], d: DepthValue) -> Result<DepthIndex, Refusal>
     ensures { told place result ≡ index_answer table.now d.0 }
 {
     check(is_table(table), Refusal::Table)?;
-    Ok(nearest(table, d))
+    nearest(table, d).ok_or(Refusal::Table)
 }

@@ -1,7 +1,8 @@
 // Offsets, and the table value that an index and an offset give (document 01, "Predicted block").
 ghost use Rattle.std.specs.Prelude.{◌≡◌};
-ghost use Rattle.pattern.specs.Refusal.{told};
-ghost use Rattle.depth_table.specs.Offset.{offset_ok, offset_usable, offsets_ok, offsets_usable};
+ghost use Rattle.arith.specs.Checks.{refusal};
+ghost use Rattle.pattern.specs.Refusal.{refusal_in, told};
+ghost use Rattle.depth_table.specs.Offset.{offset_ok, offset_usable, offsets_ok, offsets_usable, offset_checks};
 ghost use Rattle.depth_table.specs.Answer.{value_answer, depth};
 
 use crate::{DepthIndex, DepthValue};
@@ -35,6 +36,15 @@ pub fn offsets_usable(values: usize, off0: i32, off1: i32) -> bool
     ensures { result ≡ offsets_usable values off0 off1 }
 {
     offset_usable(values, off0) && offset_usable(values, off1)
+}
+
+// Refuses two offsets that are not both allowed, or that a table of so many values cannot both use: 4, 24. They are two numbers and no
+// pair, since all that has them, records, inputs and the calls for C, has them as two fields with names.
+pub fn check_offsets(values: usize, off0: i32, off1: i32) -> Result<(), Refusal>
+    ensures { refusal_in result ≡ refusal (offset_checks values off0 off1) 0 }
+{
+    check(offsets_ok(off0, off1), Refusal::Offset)?;
+    check(offsets_usable(values, off0, off1), Refusal::OffsetPastTable)
 }
 
 // The table value at an index plus an offset, clamped; or refusal 3 where there is no value, or 4.

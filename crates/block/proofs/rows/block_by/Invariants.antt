@@ -8,6 +8,6 @@ use Rattle.block.proofs.rows.block_by.Given as goal
 
 abbrev pub invariant-loop-y : goal.invariant-loop-y
 invariant-loop-y g l =
-    (length l.row-items ≡ l.n)
-    × ((k : ℕ) → k < l.y-counter → (v : ℕ → ℕ → ℕ) → ((x s : ℕ) → x < l.n → goal.F-post g l.f x k s → s ≡ v x k)
-    → get_or l.row-items k (replicate capacity 0) ≡ upto capacity l.n (λ x. v x k) 0)
+    (length l.row-items ≡ l.size.n)
+    × ((k : ℕ) → k < l.y-counter → (v : ℕ → ℕ → ℕ) → ((x s : ℕ) → x < l.size.n → goal.F-post g l.f x k s → s ≡ v x k)
+    → get_or l.row-items k (replicate capacity 0) ≡ upto capacity l.size.n (λ x. v x k) 0)

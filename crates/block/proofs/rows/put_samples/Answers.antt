@@ -9,4 +9,4 @@ pub returns : goal.returns
 unfolding samples_of
 returns c =
     let i = c.loop-k.invariant in
-    stored-all _ 0 _ (c.args.n * c.args.n) i.0 (λ k h. i.1 k (omega arith))
+    stored-all _ 0 _ (c.args.size.n * c.args.size.n) i.0 (λ k h. i.1 k (omega arith))

@@ -6,4 +6,4 @@ use Rattle.block.specs.Block.{sample}
 use Rattle.block.proofs.rows.put_samples.Given as goal
 
 abbrev pub invariant-loop-k : goal.invariant-loop-k
-invariant-loop-k l = (length l.samples ≡ l.n * l.n) × ((i : ℕ) → i < l.k → get_or l.samples i 0 ≡ sample l.b (i % l.n) (i / l.n))
+invariant-loop-k l = (length l.samples ≡ l.size.n * l.size.n) × ((i : ℕ) → i < l.k → get_or l.samples i 0 ≡ sample l.b (i % l.size.n) (i / l.size.n))
