@@ -1,35 +1,25 @@
--- What follows where no check fails, and the list as built.
+-- The room that each allowed size needs, and the list as built.
 use Prim.Native.Nat.{ℕ, ◌-◌, ◌*◌, ◌≤◌, ◌<◌}
 use mathlib.Core.Bool.{Bool, true, false, cond}
-use mathlib.Core.Logic.{◌⊎◌, ⊎_elim, inl, inr}
 use mathlib.Core.List.{List, ◌++◌}
 use mathlib.Core.Path.{◌≡◌, sym, ap, ◌∙◌}
 use native.Mathlib.Nat.{mul-le-mul}
 use native.Mathlib.Omega.{arith}
-use borrow.Author.Tests.{leb-true, eq-eqb, eqb-true}
+use borrow.Author.Tests.{eq-eqb, eqb-true}
 use lib.Dec.{eqb, leb}
 use lib.ListN.{length, get_or, take, drop}
 use lib.Seq.{get_or-take}
 use Rattle.arith.specs.Checks.{given}
 use Rattle.arith.specs.Lists.{same_list}
 use Rattle.arith.proofs.Bools.{both_of}
-use Rattle.arith.proofs.CheckLaws.{passed, given-means, lent-given}
+use Rattle.arith.proofs.CheckLaws.{given-means, lent-given}
 use Rattle.arith.proofs.ListLaws.{same-list, list_same}
 use Rattle.pattern.specs.Size.{greatest_size, size_ok}
 use Rattle.pattern.specs.Words.{greatest_words, words_of, whole_patterns, patterns_of, word_list}
-use Rattle.pattern.proofs.SizeLaws.{size-bounds, size-cases}
+use Rattle.pattern.proofs.SizeLaws.{size-bounds}
 use Rattle.pattern.proofs.WordLaws.{length-patterns, words-whole, patterns-words}
 use Rattle.wedgelet.specs.Wedgelet.{points, wedgelet_list}
 use Rattle.wedgelet.specs.Answer.{needed, needed_words, most_patterns, most_words, list_refusal, list_answer, list_after, as_built}
-
--- what follows where no check fails: an allowed size, and enough words for it
-pub list_fits : (n words : ℕ) → 0 ≡ list_refusal n words → (2 ≤ n) × ((n ≤ 8) ⊎ (n ≡ greatest_size)) × (needed_words n ≤ words)
-unfolding list_refusal
-list_fits n words h =
-    let p = passed (size_ok n) 0 _ (sym h) in
-    let q = passed (leb (needed_words n) words) 1 0 p.1 in
-    let low = (size-bounds n p.0).0 in
-    (omega arith, ⊎_elim (λ b. inl b.1) (λ e. inr e) (size-cases n p.0), leb-true (needed_words n) words q.0)
 
 -- the patterns of the greatest size are enough for every allowed size, and so are its words
 pub patterns-enough : (n : ℕ) → n ≤ greatest_size → needed n ≤ most_patterns

@@ -3,34 +3,40 @@ use Prim.Native.Nat.{ℕ, ◌+◌, ◌≤◌, ◌<◌}
 use mathlib.Core.List.{List}
 use mathlib.Core.Logic.{◌⊎◌, ⊎_elim}
 use mathlib.Core.Path.{◌≡◌, sym, ap, ◌∙◌}
-use native.Mathlib.Decide.{ℕ_discrete, dec_le}
+use native.Mathlib.Decide.{ℕ_discrete}
 use native.Mathlib.Nat.{eq-or-lt_of_le}
 use native.Mathlib.Omega.{arith}
+use Rattle.std.proofs.Common.{Option, None, Some}
 use lib.Count.{ones}
 use lib.ListN.{length, get_or, set, replicate, length-set, length-replicate, get_or-replicate}
 use lib.Seq.{get_or-set_same, get_or-set_other}
 use Rattle.pattern.specs.Size.{greatest_samples}
 use Rattle.wedgelet.specs.Answer.{most_patterns}
 
--- `at` is 1 more than the last of the places below `limit` where g has m ones, 0 where there is none
+-- the place after an entry; 0 where there is none
+abbrev pub past : Option ℕ → ℕ
+past None = 0
+past (Some k) = k + 1
+
+-- `at` is the place after the last of the places below `limit` where g has m ones, 0 where there is none
 pub record Last (g : ℕ → ℕ) (m limit at : ℕ) : Type 0 where
   pub within : at ≤ limit
   pub its : (j : ℕ) → at ≡ j + 1 → ones (g j) ≡ m
   pub none : (i : ℕ) → at ≤ i → i < limit → ones (g i) ≡ m → ⊥
 
 -- the entries g 0 to g (count - 1), chained: the last entry for each number of marks, and the one before each entry
-pub record Chained (g : ℕ → ℕ) (latest earlier : List ℕ) (count : ℕ) : Type 0 where
+pub record Chained (g : ℕ → ℕ) (latest earlier : List (Option ℕ)) (count : ℕ) : Type 0 where
   pub keys : length latest ≡ greatest_samples + 1
   pub room : length earlier ≡ most_patterns
-  pub heads : (m : ℕ) → m < greatest_samples + 1 → Last g m count (get_or latest m 0)
-  pub links : (j : ℕ) → j < count → Last g (ones (g j)) j (get_or earlier j 0)
+  pub heads : (m : ℕ) → m < greatest_samples + 1 → Last g m count (past (get_or latest m None))
+  pub links : (j : ℕ) → j < count → Last g (ones (g j)) j (past (get_or earlier j None))
 
-pub chained-none : (g : ℕ → ℕ) → Chained g (replicate (greatest_samples + 1) 0) (replicate most_patterns 0) 0
+pub chained-none : (g : ℕ → ℕ) → Chained g (replicate (greatest_samples + 1) None) (replicate most_patterns None) 0
 chained-none g =
     record {
-      keys = length-replicate {A = ℕ} (greatest_samples + 1) 0;
-      room = length-replicate {A = ℕ} most_patterns 0;
-      heads = λ m h. rw (get_or-replicate {A = ℕ} (greatest_samples + 1) m 0 0 h) (record { within = omega arith; its = λ j e. absurd (omega arith); none = λ i _ l. absurd (omega arith) });
+      keys = length-replicate {A = Option ℕ} (greatest_samples + 1) None;
+      room = length-replicate {A = Option ℕ} most_patterns None;
+      heads = λ m h. rw (get_or-replicate {A = Option ℕ} (greatest_samples + 1) m None None h) (record { within = omega arith; its = λ j e. absurd (omega arith); none = λ i _ l. absurd (omega arith) });
       links = λ j h. absurd (omega arith);
     }
 
@@ -45,12 +51,12 @@ last_as {g} {g'} s e l =
 
 -- one entry more, which has m ones
 pub chained-add :
-    {g g' : ℕ → ℕ} {latest earlier : List ℕ} {count : ℕ} (m : ℕ) → m < greatest_samples + 1 → count < most_patterns → ((i : ℕ) → i < count → g' i ≡ g i) → ones (g' count) ≡ m
-    → Chained g latest earlier count → Chained g' (set latest m (count + 1)) (set earlier count (get_or latest m 0)) (count + 1)
+    {g g' : ℕ → ℕ} {latest earlier : List (Option ℕ)} {count : ℕ} (m : ℕ) → m < greatest_samples + 1 → count < most_patterns → ((i : ℕ) → i < count → g' i ≡ g i) → ones (g' count) ≡ m
+    → Chained g latest earlier count → Chained g' (set latest m (Some count)) (set earlier count (get_or latest m None)) (count + 1)
 chained-add {g} {g'} {latest} {earlier} {count} m hm hc s o c =
     record {
-      keys = length-set latest m (count + 1) ∙ c.keys;
-      room = length-set earlier count (get_or latest m 0) ∙ c.room;
+      keys = length-set latest m (Some count) ∙ c.keys;
+      room = length-set earlier count (get_or latest m None) ∙ c.room;
       heads = λ k h. head k h (ℕ_discrete k m);
       links = λ j h. link j (eq-or-lt_of_le (let q : j ≤ count = omega arith in q));
     }
@@ -75,16 +81,16 @@ chained-add {g} {g'} {latest} {earlier} {count} m hm hc s o c =
           none = λ i a b. absurd (omega arith);
         }
 
-    head : (k : ℕ) → k < greatest_samples + 1 → Dec (k ≡ m) → Last g' k (count + 1) (get_or (set latest m (count + 1)) k 0)
-    head k h (yes e) = rw (e, get_or-set_same latest m (count + 1) 0 (omega (arith, c.keys))) new
-    head k h (no d) = rw (get_or-set_other latest m k (count + 1) 0 d) (old k (get_or latest k 0) d (c.heads k h))
+    head : (k : ℕ) → k < greatest_samples + 1 → Dec (k ≡ m) → Last g' k (count + 1) (past (get_or (set latest m (Some count)) k None))
+    head k h (yes e) = rw (e, get_or-set_same latest m (Some count) None (omega (arith, c.keys))) new
+    head k h (no d) = rw (get_or-set_other latest m k (Some count) None d) (old k (past (get_or latest k None)) d (c.heads k h))
 
-    link : (j : ℕ) → (j ≡ count) ⊎ (j < count) → Last g' (ones (g' j)) j (get_or (set earlier count (get_or latest m 0)) j 0)
+    link : (j : ℕ) → (j ≡ count) ⊎ (j < count) → Last g' (ones (g' j)) j (past (get_or (set earlier count (get_or latest m None)) j None))
     link j h =
         ⊎_elim
-        (λ (e : j ≡ count). rw (e, get_or-set_same earlier count (get_or latest m 0) 0 (omega (arith, c.room))) (last_as s (sym o) (c.heads m hm)))
+        (λ (e : j ≡ count). rw (e, get_or-set_same earlier count (get_or latest m None) None (omega (arith, c.room))) (last_as s (sym o) (c.heads m hm)))
         (λ (l : j < count).
-        rw (get_or-set_other earlier count j (get_or latest m 0) 0 (λ e. omega arith))
+        rw (get_or-set_other earlier count j (get_or latest m None) None (λ e. omega arith))
         (last_as (λ i q. s i (omega arith)) (ap ones (sym (s j l))) (c.links j l)))
         h
 
@@ -95,24 +101,7 @@ pub record Passed (g : ℕ → ℕ) (count w k : ℕ) : Type 0 where
   pub its : (j : ℕ) → k ≡ j + 1 → ones (g j) ≡ ones w
   pub fresh : (j : ℕ) → k ≤ j → j < count → g j ≡ w → ⊥
 
-pub passed_first : {g : ℕ → ℕ} {latest earlier : List ℕ} {count m : ℕ} (w : ℕ) → m < greatest_samples + 1 → m ≡ ones w → Chained g latest earlier count → Passed g count w (get_or latest m 0)
+pub passed_first : {g : ℕ → ℕ} {latest earlier : List (Option ℕ)} {count m : ℕ} (w : ℕ) → m < greatest_samples + 1 → m ≡ ones w → Chained g latest earlier count → Passed g count w (past (get_or latest m None))
 passed_first {m = m} w h e c =
     let l = c.heads m h in
     record { within = l.within; its = λ j q. l.its j q ∙ e; fresh = λ j a b q. l.none j a b (ap ones q ∙ sym e) }
-
-pub passed-more :
-    {g : ℕ → ℕ} {latest earlier : List ℕ} {count w k : ℕ} (j : ℕ) → k ≡ j + 1 → (g j ≡ w → ⊥) → Chained g latest earlier count → Passed g count w k
-    → Passed g count w (get_or earlier j 0)
-passed-more {g} {latest} {earlier} {count} {w} {k} j e d c p =
-    let lt : j < count = omega (arith, p.within) in
-    let l = c.links j lt in
-    let o = p.its j e in
-    record {
-      within = omega (arith, l.within);
-      its = λ i q. l.its i q ∙ o;
-      fresh = λ i a b q.
-          elim (ℕ_discrete i j) [
-            | yes f ↦ d (ap g (sym f) ∙ q)
-            | no f ↦ elim (dec_le j i) [ yes z ↦ p.fresh i (let y : k ≤ i = omega arith in y) b q | no z ↦ l.none i a (let y : i < j = omega arith in y) (ap ones q ∙ sym o) ]
-          ];
-    }

@@ -4,6 +4,7 @@ use mathlib.Core.List.{List, [], ◌∷◌, ◌++◌}
 use mathlib.Core.Path.{◌≡◌, refl, sym, ap, ap₂, ◌∙◌, subst}
 use native.Mathlib.Nat.{mul-zero, mul-add, mul-one, mul-le-mul_left, add-sub_of_le, le_trans}
 use native.Mathlib.Omega.{arith}
+use Rattle.std.proofs.Common.{Option, None, Some}
 use lib.Count.{ones}
 use lib.ListN.{length, get_or, set, take, drop, replicate}
 use lib.Seq.{drop_at, take_at, drop-append-add, drop-drop, sets, sets-eq, length-sets}
@@ -90,26 +91,26 @@ room_at n entry words h l = le_trans (mul-le-mul_left (words_of n) (let q : entr
 
 -- ---- the list so far, with its entries chained by their number of marks
 
-pub record Grown (n : ℕ) (k l₀ l latest earlier : List ℕ) (count : ℕ) : Type 0 where
+pub record Grown (n : ℕ) (k l₀ l : List ℕ) (latest earlier : List (Option ℕ)) (count : ℕ) : Type 0 where
   pub front : Front n k l₀ l count
   pub chain : Chained (pattern_at n l) latest earlier count
 
-pub grown-none : (n : ℕ) (l : List ℕ) → Grown n [] l l (replicate (greatest_samples + 1) 0) (replicate most_patterns 0) 0
+pub grown-none : (n : ℕ) (l : List ℕ) → Grown n [] l l (replicate (greatest_samples + 1) None) (replicate most_patterns None) 0
 grown-none n l = record { front = front-none n l; chain = chained-none (pattern_at n l) }
 
-pub grown-as : {n : ℕ} {k k' l₀ l latest earlier : List ℕ} {count : ℕ} → k' ≡ k → Grown n k l₀ l latest earlier count → Grown n k' l₀ l latest earlier count
+pub grown-as : {n : ℕ} {k k' l₀ l : List ℕ} {latest earlier : List (Option ℕ)} {count : ℕ} → k' ≡ k → Grown n k l₀ l latest earlier count → Grown n k' l₀ l latest earlier count
 grown-as e b = record { front = front-as e b.front; chain = b.chain }
 
-pub grown-self : {n : ℕ} {k l₀ l latest earlier : List ℕ} {count : ℕ} → Grown n k l₀ l latest earlier count → Grown n k l l latest earlier count
+pub grown-self : {n : ℕ} {k l₀ l : List ℕ} {latest earlier : List (Option ℕ)} {count : ℕ} → Grown n k l₀ l latest earlier count → Grown n k l l latest earlier count
 grown-self b = record { front = front_self b.front; chain = b.chain }
 
 pub grown-over :
-    {n : ℕ} {k k' l₀ l l' a b a' b' : List ℕ} {c c' : ℕ} → length k ≤ length k' → Grown n k l₀ l a b c → Grown n k' l l' a' b' c'
+    {n : ℕ} {k k' l₀ l l' : List ℕ} {a b a' b' : List (Option ℕ)} {c c' : ℕ} → length k ≤ length k' → Grown n k l₀ l a b c → Grown n k' l l' a' b' c'
     → Grown n k' l₀ l' a' b' c'
 grown-over h f g = record { front = front-over h f.front g.front; chain = g.chain }
 
 -- the steps of the pair loops: a candidate that is dropped, and one that is kept
-module _ (n : ℕ) (k l₀ l latest earlier : List ℕ) (s e : ℕ) {count w : ℕ} (d : e ≡ s → ⊥) (v : w ≡ wedgelet n s e) (f : Grown n (ends n k s e) l₀ l latest earlier count) where
+module _ (n : ℕ) (k l₀ l : List ℕ) (latest earlier : List (Option ℕ)) (s e : ℕ) {count w : ℕ} (d : e ≡ s → ⊥) (v : w ≡ wedgelet n s e) (f : Grown n (ends n k s e) l₀ l latest earlier count) where
   pub grown-zero : w ≡ 0 → Grown n (ends n k s (e + 1)) l₀ l latest earlier count
   grown-zero h = grown-as (skip-zero n k s e d (sym v ∙ h)) f
 
@@ -124,7 +125,7 @@ module _ (n : ℕ) (k l₀ l latest earlier : List ℕ) (s e : ℕ) {count w : �
   pub grown-kept :
       {i m : ℕ} {l' : List ℕ} → (w ≡ 0 → ⊥) → ((j : ℕ) → j < count → pattern_at n l j ≡ w → ⊥) → words_of n * (count + 1) ≤ length l → count < most_patterns
       → m < greatest_samples + 1 → m ≡ ones w → i ≡ e → l' ≡ sets l (words_of n * count) (in_words n w)
-      → Grown n (ends n k s (i + 1)) l₀ l' (set latest m (count + 1)) (set earlier count (get_or latest m 0)) (count + 1)
+      → Grown n (ends n k s (i + 1)) l₀ l' (set latest m (Some count)) (set earlier count (get_or latest m None)) (count + 1)
   grown-kept {i} {m} {l'} z h r c mb me t o =
       let x = ends n k s e in
       let new : Front n (x ++ (w ∷ [])) l₀ l' (count + 1) =

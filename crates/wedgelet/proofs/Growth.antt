@@ -2,18 +2,18 @@
 use Prim.Native.Nat.{ℕ, zero, suc, ◌+◌, ◌-◌, ◌*◌, ◌≤◌, ◌<◌}
 use mathlib.Core.Bool.{Bool, true, false, cond, ◌||◌, or-true}
 use mathlib.Core.List.{List, [], ◌∷◌, ◌++◌}
-use mathlib.Core.Logic.{◌⊎◌, ⊎_elim, inl, inr}
+use mathlib.Core.Logic.{⊎_elim}
 use mathlib.Core.Path.{◌≡◌, refl, ap, ◌∙◌}
 use native.Mathlib.Nat.{mul-le-mul_right, suc-mul, add-zero, add-suc, add-sub_of_le}
 use native.Mathlib.Numerals.{add-one}
 use native.Mathlib.Omega.{arith}
-use native.Mathlib.Decide.{dec_le}
 use borrow.Author.Tests.{eq-eqb, ne_eqb}
 use lib.Dec.{eqb}
 use lib.ListN.{length, get_or}
 use Rattle.wedgelet.specs.Wedgelet.{points, wedgelet, holds, keep, ends, starts, wedgelet_list}
 use Rattle.arith.proofs.ListLaws.{length-end}
 use Rattle.wedgelet.specs.Answer.{needed}
+use Rattle.wedgelet.proofs.LineLaws.{le-or-lt}
 
 -- ---- whether a word stands in a list
 
@@ -86,9 +86,6 @@ unfolding starts
 starts-length n zero h = omega arith
 starts-length n (suc s) h =
     omega (arith, suc-mul s (points n - 1), starts-length n s (omega arith), ends-after n (starts n s) s (points n) h)
-
-le-or-lt : (a b : ℕ) → (a ≤ b) ⊎ (b < a)
-le-or-lt a b = elim (dec_le a b) [ yes h ↦ inl h | no h ↦ inr (omega arith) ]
 
 -- there is room for one word more at each candidate
 pub room : (n s e : ℕ) → s < points n → e < points n → (e ≡ s → ⊥) → length (ends n (starts n s) s e) < needed n

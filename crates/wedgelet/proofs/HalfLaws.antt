@@ -1,8 +1,12 @@
 -- One side of a line: its sums, row by row, and the side that does not hold (0,0).
-use Prim.Native.Nat.{ℕ, ◌+◌, ◌-◌, ◌*◌, ◌/◌, ◌%◌, ◌^◌, ◌≤◌, ◌<◌, min}
+use Prim.Native.Nat.{ℕ, zero, suc, ◌+◌, ◌-◌, ◌*◌, ◌/◌, ◌%◌, ◌^◌, ◌≤◌, ◌<◌, min}
 use mathlib.Core.Bool.{Bool, true, false, not}
-use mathlib.Core.Path.{◌≡◌, sym, ap, ap₂, ◌∙◌, subst}
-use native.Mathlib.Nat.{mul-add, mul-one, mul_comm, add-mul, mul-le-mul, mul-le-mul_right, suc-mul, one-mul, lt_of_lt_of_le, add-sub_of_le, le-div_iff_mul-le, div-lt_iff_lt-mul}
+use mathlib.Core.List.{map}
+use Rattle.std.specs.List.{sum, range_with_len}
+use Rattle.std.proofs.lemmas.List.FromFn.{sum_by-map-range_with_len_more}
+use native.Mathlib.Numerals.{add-one}
+use mathlib.Core.Path.{◌≡◌, refl, sym, ap, ap₂, ◌∙◌, subst}
+use native.Mathlib.Nat.{zero-mul, mul-add, mul-one, mul_comm, add-mul, mul-le-mul, mul-le-mul_right, suc-mul, one-mul, lt_of_lt_of_le, add-sub_of_le, le-div_iff_mul-le, div-lt_iff_lt-mul}
 use native.Mathlib.Decide.{dec_le}
 use native.Mathlib.Omega.{arith}
 use borrow.Author.Tests.{lt-ltb, le-ltb}
@@ -134,11 +138,26 @@ module _ (h : Half) (n from : ℕ) where
       let next : (k + 1) * n ≤ 64 = omega (arith, add-mul k 1 n, one-mul n) in
       rw (row_more k hn le ew er) (lt_of_lt_of_le (bits-lt at_row ((k + 1) * n)) (pow_mono next))
 
+  -- what row k adds to a word
+  abbrev pub row_word : ℕ → ℕ
+  row_word k = bits (λ x. in_half h x (from + k)) n * 2 ^ (k * n) % 2 ^ 64
+
+  -- the rows of a word, summed
+  pub rows_sum : (count : ℕ) → 1 ≤ n → count * n ≤ 64 → sum (map row_word (range_with_len 0 count)) ≡ bits at_row (count * n)
+  unfolding bits
+  rows_sum zero hn le = sym (ap (bits at_row) (zero-mul n))
+  rows_sum (suc k) hn le =
+      let room : k * n + n ≤ 64 = omega (arith, suc-mul k n) in
+      ap (λ (m : ℕ). sum (map row_word (range_with_len 0 m))) (sym (add-one k))
+      ∙ sum_by-map-range_with_len_more (λ w. w) row_word 0 k k (omega arith)
+      ∙ row_more k hn room (rows_sum k hn (omega arith)) refl
+      ∙ ap (λ (m : ℕ). bits at_row (m * n)) (add-one k)
+
 -- a row, from its sums
 pub row_of :
-    (h : Half) (n y : ℕ) {low high r : ℕ} → low ≡ h.low + h.lrow * y → high ≡ h.high + h.hrow * y
-    → r ≡ bits (λ x. ltb (low + h.lcol * x) (high + h.hcol * x)) n → r ≡ bits (λ x. in_half h x y) n
-row_of h n y p q e = e ∙ ap₂ (λ (a b : ℕ). bits (λ x. ltb (a + h.lcol * x) (b + h.hcol * x)) n) p q
+    (h : Half) (n y : ℕ) {low high r : ℕ} → low ≡ h.low.base + h.low.row * y → high ≡ h.high.base + h.high.row * y
+    → r ≡ bits (λ x. ltb (low + h.low.column * x) (high + h.high.column * x)) n → r ≡ bits (λ x. in_half h x y) n
+row_of h n y p q e = e ∙ ap₂ (λ (a b : ℕ). bits (λ x. ltb (a + h.low.column * x) (b + h.high.column * x)) n) p q
 
 -- ---- the words of a pattern
 
@@ -226,7 +245,12 @@ pub half_other_made :
     → (l : (xs * ye ≤ greatest_samples) × (ys < greatest_size) × (xe < greatest_size))
     × (h : (ys * xe + 1 ≤ greatest_samples) × (ye < greatest_size) × (xs < greatest_size))
     × ((x y : ℕ)
-    → in_half (record { low = xs * ye; lcol = ys; lrow = xe; high = ys * xe + 1; hcol = ye; hrow = xs; low_small = l; high_small = h }) x y
+    → in_half
+    (record {
+      low = record { base = xs * ye; column = ys; row = xe; small = l };
+      high = record { base = ys * xe + 1; column = ye; row = xs; small = h };
+    })
+    x y
     ≡ flip (beside xs ys xe ye 0 0) (beside xs ys xe ye x y))
 half_other_made xs ys xe ye a b c d h =
     let u = product-small xs ye a d in
@@ -238,7 +262,12 @@ pub half_beside_made :
     → (l : (ys * xe ≤ greatest_samples) × (ye < greatest_size) × (xs < greatest_size))
     × (h : (xs * ye ≤ greatest_samples) × (ys < greatest_size) × (xe < greatest_size))
     × ((x y : ℕ)
-    → in_half (record { low = ys * xe; lcol = ye; lrow = xs; high = xs * ye; hcol = ys; hrow = xe; low_small = l; high_small = h }) x y
+    → in_half
+    (record {
+      low = record { base = ys * xe; column = ye; row = xs; small = l };
+      high = record { base = xs * ye; column = ys; row = xe; small = h };
+    })
+    x y
     ≡ flip (beside xs ys xe ye 0 0) (beside xs ys xe ye x y))
 half_beside_made xs ys xe ye a b c d h =
     let u = product-small xs ye a d in

@@ -12,7 +12,7 @@ use Rattle.arith.proofs.WholeLaws.{Is, is-minus, is-neg, is-add, is_mul, is_posi
 use Rattle.wedgelet.specs.Wedgelet.{beside}
 
 -- of two numbers the first is not greater, or the second is less
-le-or-lt : (a b : ℕ) → (a ≤ b) ⊎ (b < a)
+pub le-or-lt : (a b : ℕ) → (a ≤ b) ⊎ (b < a)
 le-or-lt a b = elim (dec_le a b) [ yes h ↦ inl h | no h ↦ inr (omega arith) ]
 
 -- the product that both sides have falls out

@@ -72,9 +72,6 @@ min-y m k = go (ltb k m) (ltb k (2 * m)) (ltb k (3 * m)) refl refl refl
 pub x_lt : (n k : ℕ) → 1 ≤ n → point_x n k < n
 x_lt n k h = rw (min-x (n - 1) k) (omega arith)
 
-pub y-lt : (n k : ℕ) → 1 ≤ n → point_y n k < n
-y-lt n k h = rw (min-y (n - 1) k) (omega arith)
-
 -- ---- the candidate across the diagonal
 
 -- the number of the point (y, x), where k is that of (x, y)

@@ -1,11 +1,11 @@
 // The candidates of the wedgelet list: pairs of border points, and their patterns.
-ghost use Rattle.std.specs.Prelude.{◌≡◌, ◌≤◌, ◌<◌, ◌⊎◌};
+ghost use Rattle.std.specs.Prelude.{◌≡◌, ◌<◌};
 ghost use Rattle.pattern.specs.Size.{greatest_size};
 ghost use Rattle.pattern.specs.Words.{pattern_number};
 ghost use Rattle.wedgelet.specs.Wedgelet.{point_x, point_y, wedgelet};
 
 use crate::half::Half;
-use pattern::Pattern;
+use pattern::{Pattern, Size};
 
 // The column and the row of a sample.
 #[derive(Clone, Copy)]
@@ -17,11 +17,10 @@ pub(crate) struct Point {
 
 impl Point {
     // Border point k.
-    fn on_border(n: usize, k: usize) -> Point
-        requires { (1 ≤ n) × (n ≤ greatest_size) }
-        ensures { (result.x ≡ point_x n k) × (result.y ≡ point_y n k) }
+    fn on_border(size: Size, k: usize) -> Point
+        ensures { (result.x ≡ point_x size.n k) × (result.y ≡ point_y size.n k) }
     {
-        let m = n - 1;
+        let m = size.n - 1;
         if k < m {
             Point { x: k, y: 0 }
         } else if k < 2 * m {
@@ -38,9 +37,8 @@ impl Point {
 }
 
 // The pattern of the candidate (s, e).
-pub(crate) fn candidate_of(n: usize, s: usize, e: usize) -> Pattern
-    requires { (1 ≤ n) × ((n ≤ 8) ⊎ (n ≡ greatest_size)) }
-    ensures { pattern_number result ≡ wedgelet n s e }
+pub(crate) fn candidate_of(size: Size, s: usize, e: usize) -> Pattern
+    ensures { pattern_number result ≡ wedgelet size.n s e }
 {
-    Half::of_line(Point::on_border(n, s), Point::on_border(n, e)).pattern(n)
+    Half::of_line(Point::on_border(size, s), Point::on_border(size, e)).pattern(size)
 }

@@ -3,103 +3,115 @@ ghost use Rattle.std.specs.Prelude.{◌≡◌, ◌-◌, ◌/◌, ◌^◌, ◌≤
 ghost use Rattle.pattern.specs.Size.{greatest_size, greatest_samples};
 
 use crate::candidates::Point;
-use pattern::Pattern;
+use pattern::{Pattern, Size};
 
-// The samples at which the low sum is below the high one: each sum is given at (0,0), with what a column and a row add to it.
+// A sum over the samples: what it is at (0,0), and what each column and each row add to it.
+#[derive(Clone, Copy)]
+pub(crate) struct Sum {
+    pub base: usize,
+    pub column: usize,
+    pub row: usize,
+    ghost small: { (base ≤ greatest_samples) × (column < greatest_size) × (row < greatest_size) },
+}
+
+impl Sum {
+    ghost use Rattle.std.specs.Prelude.{◌+◌, ◌*◌};
+
+    // The sum at column 0 of row y.
+    fn at_row(self, y: usize) -> usize
+        requires { y < greatest_size }
+        ensures { (result ≡ self.base + self.row * y) × (result ≤ 2 * greatest_samples) }
+    {
+        self.base + self.row * y
+    }
+}
+
+// The samples at which the low sum is below the high one.
 #[derive(Clone, Copy)]
 pub(crate) struct Half {
-    pub low: usize,
-    pub lcol: usize,
-    pub lrow: usize,
-    pub high: usize,
-    pub hcol: usize,
-    pub hrow: usize,
-    ghost low_small: { (low ≤ greatest_samples) × (lcol < greatest_size) × (lrow < greatest_size) },
-    ghost high_small: { (high ≤ greatest_samples) × (hcol < greatest_size) × (hrow < greatest_size) },
+    pub low: Sum,
+    pub high: Sum,
 }
 
 impl Half {
-    ghost use Rattle.std.specs.Prelude.{ℕ, ◌+◌, ◌*◌, ◌%◌, ◌⊎◌};
+    ghost use Rattle.std.specs.Prelude.{ℕ, ◌+◌, ◌*◌, ◌%◌};
     ghost use Rattle.arith.specs.Bits.{bits};
     ghost use Rattle.pattern.specs.Pattern.{pattern};
     ghost use Rattle.pattern.specs.Words.{pattern_number};
     ghost use Rattle.wedgelet.specs.Wedgelet.{beside};
     ghost use Rattle.wedgelet.specs.Half.{in_half, flip};
 
-    // The side of a line that does not hold (0,0): the samples beside the line, or all others where (0,0) is beside it.
+    // The side of a line that does not hold (0,0): the samples beside the line, or all others where (0,0) is beside it. A sum that is not
+    // below another is at least as great, which is that the other is below 1 more than it.
     #[tactic(auto, using(crate::proofs::HalfLaws::half_other, crate::proofs::HalfLaws::half_beside))]
     pub(crate) fn of_line(start: Point, end: Point) -> Half
         ensures { (x y : ℕ) → in_half result x y
             ≡ flip (beside start.x start.y end.x end.y 0 0) (beside start.x start.y end.x end.y x y) }
     {
-        let low = start.y * end.x;
-        let high = start.x * end.y;
-        if low < high {
+        let low = Sum {
+            base: start.y * end.x,
+            column: end.y,
+            row: start.x,
+        };
+        let high = Sum {
+            base: start.x * end.y,
+            column: start.y,
+            row: end.x,
+        };
+        if low.base < high.base {
             return Half {
                 low: high,
-                lcol: start.y,
-                lrow: end.x,
-                high: low + 1,
-                hcol: end.y,
-                hrow: start.x,
+                high: Sum {
+                    base: low.base + 1,
+                    column: low.column,
+                    row: low.row,
+                },
             };
         }
-        Half {
-            low,
-            lcol: end.y,
-            lrow: start.x,
-            high,
-            hcol: start.y,
-            hrow: end.x,
-        }
+        Half { low, high }
     }
 
-    // The marks of n samples of row y. They run from column 0 on, or up to column n - 1, and end where one sum catches the other up.
-    fn row(self, n: usize, y: usize) -> u64
-        requires { (n ≤ greatest_size) × (y < greatest_size) }
-        ensures { result ≡ bits (λ x. in_half self x y) n }
+    // The marks of row y. They run from column 0 on, or up to column n - 1, and end where one sum catches the other up.
+    fn row(self, size: Size, y: usize) -> u64
+        requires { y < greatest_size }
+        ensures { result ≡ bits (λ x. in_half self x y) size.n }
     {
-        let low = self.low + self.lrow * y;
-        let high = self.high + self.hrow * y;
+        let n = size.n;
+        let low = self.low.at_row(y);
+        let high = self.high.at_row(y);
         if high <= low {
-            if self.hcol <= self.lcol {
+            if self.high.column <= self.low.column {
                 return 0;
             }
-            let from = quotient(low - high, self.hcol - self.lcol);
+            let from = quotient(low - high, self.high.column - self.low.column);
             return first(n) - first((from + 1).min(n));
         }
-        if self.lcol <= self.hcol {
+        if self.low.column <= self.high.column {
             return first(n);
         }
-        let to = quotient(high - low - 1, self.lcol - self.hcol);
+        let to = quotient(high - low - 1, self.low.column - self.high.column);
         first((to + 1).min(n))
     }
 
-    // One word: the marks of `count` rows of n samples from row `from` on.
-    fn rows(self, n: usize, from: usize, count: usize) -> u64
-        requires { (1 ≤ n) × (n ≤ greatest_size) × (count * n ≤ 64) × (from + count ≤ greatest_size) }
-        ensures { result ≡ bits (λ i. in_half self (i % n) (from + i / n)) (count * n) }
+    // One word: the marks of `count` rows from row `from` on.
+    fn rows(self, size: Size, from: usize, count: usize) -> u64
+        requires { (count * size.n ≤ 64) × (from + count ≤ greatest_size) }
+        ensures { let n = size.n in result ≡ bits (λ i. in_half self (i % n) (from + i / n)) (count * n) }
     {
-        let mut word = 0;
-        for k in 0..count {
-            word += self.row(n, from + k) << (k * n);
-        }
-        word
+        (0..count)
+            .map(|k| self.row(size, from + k) << (k * size.n))
+            .sum()
     }
 
     // The pattern of its samples.
-    pub(crate) fn pattern(self, n: usize) -> Pattern
-        requires { (1 ≤ n) × ((n ≤ 8) ⊎ (n ≡ greatest_size)) }
-        ensures { pattern_number result ≡ pattern n (in_half self) }
+    pub(crate) fn pattern(self, size: Size) -> Pattern
+        ensures { pattern_number result ≡ pattern size.n (in_half self) }
     {
-        if n <= 8 {
-            return Pattern::of_word(self.rows(n, 0, n));
+        if size.n <= 8 {
+            return Pattern::of_word(self.rows(size, 0, size.n));
         }
         Pattern {
-            w0: self.rows(n, 0, 4),
-            w1: self.rows(n, 4, 4),
-            w2: self.rows(n, 8, 4),
-            w3: self.rows(n, 12, 4),
+            words: std::array::from_fn(|i| self.rows(size, 4 * i, 4)),
         }
     }
 }

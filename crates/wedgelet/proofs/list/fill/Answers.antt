@@ -1,8 +1,7 @@
 -- `fill` meets its contract: after each candidate the front of the slice holds the words of the list so far, the rest its old content, and
 -- the entries are chained by their number of marks.
-use borrow.Author.Tests.{eqb-true, eqb-false}
-use Prim.Native.Nat.{ℕ, ◌+◌, ◌-◌, ◌*◌, ◌^◌, ◌≤◌, ◌<◌}
-use mathlib.Core.Logic.{⊎_elim}
+use borrow.Author.Tests.{eqb-true}
+use Prim.Native.Nat.{ℕ, ◌+◌, ◌*◌, ◌^◌, ◌≤◌, ◌<◌}
 use mathlib.Core.Path.{◌≡◌, refl, sym, ap, ◌∙◌}
 use mathlib.Core.List.{◌++◌}
 use native.Mathlib.Omega.{arith}
@@ -10,46 +9,39 @@ use native.Mathlib.Numerals.{add-one}
 use lib.Count.{ones}
 use lib.ListN.{length, drop}
 use Rattle.arith.proofs.BitLaws.{ones_none, ones-zero}
-use Rattle.pattern.specs.Size.{greatest_size, greatest_samples}
 use Rattle.pattern.specs.Words.{pattern_number, words_of, word_list}
 use Rattle.wedgelet.specs.Wedgelet.{points, ends, starts, wedgelet_list}
 use Rattle.wedgelet.specs.Answer.{needed, most_patterns}
 use Rattle.wedgelet.proofs.PointLaws.{wedgelet-lt}
 use Rattle.wedgelet.proofs.Growth.{skip-same, room, ends-length}
-use Rattle.wedgelet.proofs.Chain.{passed_first, passed-more}
+use Rattle.wedgelet.proofs.Chain.{past}
 use Rattle.wedgelet.proofs.Front.{grown-none, grown-as, grown-self, grown-over, grown-zero, grown-held, grown-kept, room_at}
 use Rattle.wedgelet.proofs.AnswerLaws.{patterns-enough}
-use Rattle.wedgelet.proofs.list.fill.Goals.{After-candidate_of-p, After-list-1, Else-e-s, Start}
+use Rattle.wedgelet.proofs.list.fill.Goals.{After-candidate_of-p, Else-e-s}
 use Rattle.wedgelet.proofs.list.fill.Goals as goal
 
-n-le : (c : goal.Start) → c.args.n ≤ greatest_size
-n-le c = ⊎_elim (λ l. omega arith) (λ e. omega arith) c.requires.1
-
 -- the pattern is one of the block
-small : (c : goal.After-candidate_of-p) → pattern_number c.candidate_of-p.result < 2 ^ (c.args.n * c.args.n)
+small : (c : goal.After-candidate_of-p) → pattern_number c.candidate_of-p.result < 2 ^ (c.args.size.n * c.args.size.n)
 small c =
-    rw c.candidate_of-p.ensures (wedgelet-lt c.args.n c.loop-s.s c.next.e (omega arith))
+    rw c.candidate_of-p.ensures (wedgelet-lt c.args.size.n c.loop-s.s c.next.e (omega arith))
 
 -- one pattern more is less than the list needs
-free : (c : goal.Else-e-s) → c.next.count < needed c.args.n
+free : (c : goal.Else-e-s) → c.next.count < needed c.args.size.n
 free c =
     omega (
       arith,
       c.next.invariant.1.front.counted,
-      room c.args.n c.loop-s.s c.next.e c.loop-s-test.true c.next-test.true c.if-e-s.false,
+      room c.args.size.n c.loop-s.s c.next.e (omega arith) (omega arith) c.if-e-s.false,
     )
 
 few : (c : goal.Else-e-s) → c.next.count < most_patterns
-few c = omega (arith, free c, patterns-enough c.args.n (n-le (goal.at.Else-e-s c).Start))
+few c = omega (arith, free c, patterns-enough c.args.size.n c.args.size.high)
 
 -- there is room for it, and for each entry before
-fits : (c : goal.Else-e-s) (k : ℕ) → k ≤ c.next.count → words_of c.args.n * (k + 1) ≤ length c.next.list
+fits : (c : goal.Else-e-s) (k : ℕ) → k ≤ c.next.count → words_of c.args.size.n * (k + 1) ≤ length c.next.list
 fits c k h =
     let same : length c.next.list ≡ length c.args.list.now = c.next.invariant.1.front.same ∙ c.loop-s.invariant.1.front.same in
-    rw same (room_at c.args.n k (length c.args.list.now) (omega (arith, free c)) c.requires.2)
-
-pub overflow_mul-last : goal.overflow_mul-last
-overflow_mul-last c = let h = n-le (goal.at.overflow_mul-last c).Start in omega arith
+    rw same (room_at c.args.size.n k (length c.args.list.now) (omega (arith, free c)) c.requires)
 
 pub loop-s-init : goal.loop-s-init
 unfolding starts
@@ -62,57 +54,20 @@ next-init c = (omega arith, grown-self c.loop-s.invariant.1)
 pub next-preserved-then-e-s : goal.next-preserved-then-e-s
 next-preserved-then-e-s c = (omega arith, grown-as (skip-same _ _ _ _ c.if-e-s.true) c.next.invariant.1)
 
-pub candidate_of-p-requires : goal.candidate_of-p-requires
-candidate_of-p-requires c = (omega arith, c.requires.1)
-
-pub overflow_cast-m : goal.overflow_cast-m
-overflow_cast-m c = omega (arith, c.marks-m.ensures.1)
-
-pub offset_bounds-latest-m : goal.offset_bounds-latest-m
-offset_bounds-latest-m c = omega (arith, c.marks-m.ensures.1)
-
-pub bounds-latest-m : goal.bounds-latest-m
-bounds-latest-m c = omega (arith, c.marks-m.ensures.1)
-
-pub loop-k-init : goal.loop-k-init
-loop-k-init c =
-    passed_first _ (omega (arith, c.marks-m.ensures.1)) c.marks-m.ensures.0 c.next.invariant.1.chain
-
 pub is_at-requires : goal.is_at-requires
 is_at-requires c =
-    let k = c.loop-k.k in
     let a = goal.at.is_at-requires c in
-    (fits a.Else-e-s (k - 1) (omega (arith, c.loop-k.invariant.within)), small a.After-candidate_of-p)
+    let e = ap past c.in-Some.is in
+    (fits a.Else-e-s c.from-entry.result (omega (arith, e, c.loop-place.invariant.within)), small a.After-candidate_of-p)
 
-pub offset_bounds-earlier-k : goal.offset_bounds-earlier-k
-offset_bounds-earlier-k c = omega (arith, c.loop-k.invariant.within, few (goal.at.offset_bounds-earlier-k c).Else-e-s)
-
-pub bounds-earlier-k : goal.bounds-earlier-k
-bounds-earlier-k c = omega (arith, c.loop-k.invariant.within, few (goal.at.bounds-earlier-k c).Else-e-s)
-
-pub loop-k-smaller : goal.loop-k-smaller
-loop-k-smaller c =
-    let k = c.loop-k.k in
-    let h : k - 1 < c.next.count = omega (arith, c.loop-k.invariant.within) in
-    omega (arith, (c.next.invariant.1.chain.links (k - 1) h).within)
-
-pub loop-k-preserved : goal.loop-k-preserved
-loop-k-preserved c =
-    let k = c.loop-k.k in
-    passed-more (k - 1) (omega arith) (eqb-false _ _ (sym c.is_at.ensures ∙ c.if-is_at.false)) c.next.invariant.1.chain c.loop-k.invariant
+pub bounds-earlier-entry : goal.bounds-earlier-entry
+bounds-earlier-entry c =
+    let e = ap past c.in-Some.is in
+    omega (arith, e, c.loop-place.invariant.within, few (goal.at.bounds-earlier-entry c).Else-e-s)
 
 pub put-requires : goal.put-requires
 put-requires c =
     (fits (goal.at.put-requires c).Else-e-s c.next.count (omega arith), small (goal.at.put-requires c).After-candidate_of-p)
-
-marked : (c : goal.After-list-1) → c.marks-m.result < greatest_samples + 1
-marked c = omega (arith, c.marks-m.ensures.1)
-
-pub offset_bounds-latest-m-in-next : goal.offset_bounds-latest-m-in-next
-offset_bounds-latest-m-in-next c = omega (arith, marked (goal.at.offset_bounds-latest-m-in-next c).After-list-1)
-
-pub bounds-latest-m-in-next : goal.bounds-latest-m-in-next
-bounds-latest-m-in-next c = marked (goal.at.bounds-latest-m-in-next c).After-list-1
 
 pub offset_bounds-earlier-count : goal.offset_bounds-earlier-count
 offset_bounds-earlier-count c = omega (arith, few (goal.at.offset_bounds-earlier-count c).Else-e-s)
@@ -120,14 +75,8 @@ offset_bounds-earlier-count c = omega (arith, few (goal.at.offset_bounds-earlier
 pub bounds-earlier-count : goal.bounds-earlier-count
 bounds-earlier-count c = few (goal.at.bounds-earlier-count c).Else-e-s
 
-pub overflow_add-latest : goal.overflow_add-latest
-overflow_add-latest c = omega (arith, few (goal.at.overflow_add-latest c).Else-e-s)
-
-pub offset_bounds-latest-m-in-next-2 : goal.offset_bounds-latest-m-in-next-2
-offset_bounds-latest-m-in-next-2 c = omega (arith, marked (goal.at.offset_bounds-latest-m-in-next-2 c).After-list-1)
-
-pub bounds-latest-m-in-next-2 : goal.bounds-latest-m-in-next-2
-bounds-latest-m-in-next-2 c = marked (goal.at.bounds-latest-m-in-next-2 c).After-list-1
+pub overflow_cast-latest : goal.overflow_cast-latest
+overflow_cast-latest c = omega (arith, few (goal.at.overflow_cast-latest c).Else-e-s)
 
 pub overflow_add-count : goal.overflow_add-count
 overflow_add-count c = omega (arith, few (goal.at.overflow_add-count c).Else-e-s)
@@ -137,8 +86,8 @@ next-preserved c = (
   omega arith,
   grown-kept _ _ _ _ _ _ _ _ c.if-e-s.false c.candidate_of-p.ensures c.next.invariant.1
       (λ z. c.if-m-eq0.false (c.marks-m.ensures.0 ∙ ap ones z ∙ ones-zero))
-      (λ j h. c.loop-k.invariant.fresh j (omega arith) h) (fits (goal.at.next-preserved c).Else-e-s c.next.count (omega arith))
-      (few (goal.at.next-preserved c).Else-e-s) (marked (goal.at.next-preserved c).After-list-1) c.marks-m.ensures.0
+      (λ j h. let e = ap past c.in_default.is in c.loop-place.invariant.fresh j (omega (arith, e)) h) (fits (goal.at.next-preserved c).Else-e-s c.next.count (omega arith))
+      (few (goal.at.next-preserved c).Else-e-s) (omega (arith, c.marks-m.ensures.1)) c.marks-m.ensures.0
       refl c.put.ensures,
 )
 
@@ -151,16 +100,16 @@ next-preserved-then-m-eq0 c = (
 
 pub next-preserved-then-is_at : goal.next-preserved-then-is_at
 next-preserved-then-is_at c =
-    let k = c.loop-k.k in (
+    let e = ap past c.in-Some.is in (
       omega arith,
-      grown-held _ _ _ _ _ _ _ _ c.if-e-s.false c.candidate_of-p.ensures c.next.invariant.1 (k - 1) (omega (arith, c.loop-k.invariant.within))
-          (eqb-true _ _ (sym c.is_at.ensures ∙ c.if-is_at.true)) refl,
+      grown-held _ _ _ _ _ _ _ _ c.if-e-s.false c.candidate_of-p.ensures c.next.invariant.1 c.from-entry.result
+          (omega (arith, e, c.loop-place.invariant.within)) (eqb-true _ _ (sym c.is_at.ensures ∙ c.if-is_at.true)) refl,
     )
 
 pub loop-s-preserved : goal.loop-s-preserved
 unfolding starts
 loop-s-preserved c =
-    let n = c.args.n in
+    let n = c.args.size.n in
     let s = c.loop-s.s in
     let q : c.next.e ≡ points n = omega arith in (
       omega arith,
@@ -172,7 +121,7 @@ pub returns : goal.returns
 unfolding wedgelet_list
 returns c =
     let f = c.loop-s.invariant.1.front in
-    let n = c.args.n in
+    let n = c.args.size.n in
     let q : c.loop-s.s ≡ points n = omega arith in (
       f.counted ∙ ap (λ (x : ℕ). length (starts n x)) q,
       f.stored ∙ ap (λ (x : ℕ). word_list n (starts n x) ++ drop (words_of n * length (starts n x)) c.args.list.now) q,

@@ -1,25 +1,26 @@
--- `rows` meets its contract: after k rows the word holds their marks.
-use mathlib.Core.Path.{sym, ap}
-use native.Mathlib.Nat.{zero-mul}
+-- `rows` meets its contract: the words of its rows add up to their marks.
+use Prim.Native.Nat.{◌*◌}
+use native.Mathlib.Nat.{lt_of_lt_of_le}
+use lib.Pow.{pow_mono}
+use Rattle.arith.proofs.BitLaws.{bits-lt}
+use mathlib.Core.Path.{◌∙◌}
 use native.Mathlib.Omega.{arith}
-use Rattle.arith.specs.Bits.{bits}
-use Rattle.wedgelet.proofs.HalfLaws.{row_room, row_more, row_fits}
+use Rattle.std.proofs.Common.{rules}
+use Rattle.std.proofs.lemmas.Iterator.{YieldsList-from_map, YieldsList-from_range}
+use Rattle.std.proofs.lemmas.Iterator.Consumers.{sum_from_yields_List, fits_from_yields_list}
+use Rattle.wedgelet.proofs.HalfLaws.{row_word, rows_sum}
 use Rattle.wedgelet.proofs.half.Half.rows.Goals as goal
 
-pub loop-k-init : goal.loop-k-init
-unfolding bits
-loop-k-init c = (omega arith, sym (ap (bits _) (zero-mul c.args.n)))
-
-pub overflow_add-word : goal.overflow_add-word
-overflow_add-word c =
+pub sum-requires-clause-fits : goal.sum-requires-clause-fits
+sum-requires-clause-fits c =
     let a = c.args in
-    record {
-      fits = row_fits a.self a.n a.from c.loop-k.k c.requires.0 (row_room c.loop-k.k a.n a.count c.loop-k-test.true c.requires.2) c.loop-k.invariant.1 c.row.ensures;
-    }
+    fits_from_yields_list c.map.result _
+    (YieldsList-from_map _ (row_word a.self a.size.n a.from) (YieldsList-from_range 0 _ a.count c.map.ensures.source (omega arith)) c.map.ensures.closure (λ x r q k. search rules))
+    (rw (rows_sum a.self a.size.n a.from a.count (omega arith) c.requires.0) (lt_of_lt_of_le (bits-lt _ (a.count * a.size.n)) (pow_mono c.requires.0)))
 
-pub loop-k-preserved : goal.loop-k-preserved
-loop-k-preserved c =
-    let a = c.args in (
-      omega arith,
-      row_more a.self a.n a.from c.loop-k.k c.requires.0 (row_room c.loop-k.k a.n a.count c.loop-k-test.true c.requires.2) c.loop-k.invariant.1 c.row.ensures,
-    )
+pub returns : goal.returns
+returns c =
+    let a = c.args in
+    sum_from_yields_List c.map.result _ c.sum.ensures.ran
+    (YieldsList-from_map _ (row_word a.self a.size.n a.from) (YieldsList-from_range 0 _ a.count c.map.ensures.source (omega arith)) c.map.ensures.closure (λ x r q k. search rules))
+    ∙ rows_sum a.self a.size.n a.from a.count (omega arith) c.requires.0
