@@ -10,18 +10,14 @@ use native.Mathlib.Omega.{arith}
 use lib.Dec.{eqb, ltb}
 use lib.ListN.{length, get_or, take, drop, length-append, length-take, length-drop, take-append-drop, get_or-append}
 use lib.Seq.{take_at, drop_at, get_or-drop, get_or-take, get_or-append-add}
-use borrow.Author.Tests.{eq-eqb, eqb-true, ne_eqb, eqb-false, ltb-true, ltb-false}
-use Rattle.arith.proofs.Bools.{either-of, clash}
+use borrow.Author.Tests.{not-true, eq-eqb, eqb-true, ne_eqb, eqb-false, ltb-true, ltb-false}
+use Rattle.arith.proofs.Bools.{either-of}
 use Rattle.pattern.specs.Pattern.{mark, transposed}
 use Rattle.pattern.proofs.PatternLaws.{transposed-mark}
 use Rattle.prediction.specs.Sides.{left_at, top_at, left_change, top_change, differ, mean, vert_edge, hor_edge, lt_by, br_by, lt, br, side_depth}
 use Rattle.prediction.specs.Transposed.{transposed_neighbours, ends_decide, EndsDecide}
 
 -- ---- the condition on the runs
-
-not-by : (b : Bool) → not b ≡ true → b ≡ false
-not-by true h = clash (sym h)
-not-by false h = refl
 
 module _ (n : ℕ) (s : List ℕ) where
   abbrev Either : Type 0
@@ -31,7 +27,7 @@ module _ (n : ℕ) (s : List ℕ) where
   unfolding ends_decide
   ends-either d =
       ⊎_elim
-      (λ u. inl (eqb-false (left_change n s) (top_change n s) (not-by (eqb (left_change n s) (top_change n s)) u)))
+      (λ u. inl (eqb-false (left_change n s) (top_change n s) (not-true (eqb (left_change n s) (top_change n s)) u)))
       (λ e. inr (eqb-true (left_at s (2 * n - 1)) (top_at n s (2 * n - 1)) e))
       (either-of (not (eqb (left_change n s) (top_change n s))) (eqb (left_at s (2 * n - 1)) (top_at n s (2 * n - 1))) d)
 

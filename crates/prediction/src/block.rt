@@ -13,7 +13,7 @@ ghost use Rattle.prediction.specs.Answer.{predict_answer, predict_block, predict
 
 use crate::Input;
 use crate::sides::Neighbours;
-use depth_table::{DepthValue, is_table, nearest_index, offsets_ok, offsets_usable, value_at};
+use depth_table::{DepthValue, check_offsets, is_table, nearest_index, value_at};
 use pattern::{Pattern, Refusal, check, size_ok};
 
 // Each sample takes v1 where it is marked, v0 where not.
@@ -37,6 +37,7 @@ fn level(table: &[u8], d: DepthValue, off: i32) -> u8
 
 impl<'a> Input<'a> {
     // Refuses what no block of so many samples is predicted from; `asked` is whether the table is as it has to be: 1, 2, 3, 5, 4, 24.
+    // `asked` comes as a value, as in the definition (`predict_refusal_by`): the two public calls ask different things of the table.
     #[tactic(auto, unfolding(crate::specs::Answer::predict_refusal_by, crate::specs::Answer::lengths_ok))]
     fn check_all(self, asked: bool, samples: usize) -> Result<(), Refusal>
         ensures { let I = self.entry in told (λ passed. passed) result ≡ answer (predict_refusal_by
@@ -50,11 +51,7 @@ impl<'a> Input<'a> {
         )?;
         check(asked, Refusal::Table)?;
         check(self.pattern.fits(n), Refusal::Pattern)?;
-        check(offsets_ok(self.off0, self.off1), Refusal::Offset)?;
-        check(
-            offsets_usable(self.table.len(), self.off0, self.off1),
-            Refusal::OffsetPastTable,
-        )
+        check_offsets(self.table.len(), self.off0, self.off1)
     }
 
     // The values of marked and of unmarked samples: each takes the depth of its side, and the offset of its mark.

@@ -16,7 +16,8 @@ pub struct SideDepths {
     pub br: DepthValue,
 }
 
-// What a block is predicted from: its size, its pattern, its neighbours, the depth table, and the offsets of partitions 0 and 1.
+// What a block is predicted from: its size, its pattern, its neighbours, the depth table, and the offsets of partitions 0 and 1, which
+// have the names that a record's have.
 #[derive(Clone, Copy)]
 pub struct Input<'a> {
     pub n: usize,

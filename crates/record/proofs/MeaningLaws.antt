@@ -9,31 +9,13 @@ use borrow.Author.Tests.{lt-ltb, ltb-true, eqb-true}
 use lib.ListN.{get_or}
 use Rattle.arith.specs.Checks.{Answer, refused, given, answer}
 use Rattle.arith.proofs.CheckLaws.{holds, passes, kept, refused-by, given-means, refused-means}
+use Rattle.pattern.proofs.AnswerLaws.{number-some}
 use Rattle.pattern.specs.Refusal.{number_of}
 use Rattle.pattern.specs.declared.refusals.Refusal.{Refusal}
-use Rattle.pattern.specs.declared.refusals.Refusal.TheVariants as refusal
 use Rattle.pattern.specs.Size.{word_ok}
 use Rattle.depth_table.specs.Offset.{offset_checks}
 use Rattle.record.specs.declared.Record.{Record}
 use Rattle.record.specs.Meaning.{Named, listed, contour, offset_refusal, kind_meaning, kind_refusal, record_meaning, record_refusal, pattern_named, Sound}
-
--- no refusal has the number 0
-number-some : (f : Refusal) → number_of f ≡ 0 → ⊥
-number-some refusal.Size h = omega arith
-number-some refusal.Length h = omega arith
-number-some refusal.Table h = omega arith
-number-some refusal.Offset h = omega arith
-number-some refusal.Pattern h = omega arith
-number-some refusal.Entry h = omega arith
-number-some refusal.Kind h = omega arith
-number-some refusal.Sides h = omega arith
-number-some refusal.Form h = omega arith
-number-some refusal.NoPattern h = omega arith
-number-some refusal.Full h = omega arith
-number-some refusal.NoTexture h = omega arith
-number-some refusal.Missing h = omega arith
-number-some refusal.Placed h = omega arith
-number-some refusal.OffsetPastTable h = omega arith
 
 module _ (n : ℕ) (list : List ℕ) (count : ℕ) (lent : Bool) where
   -- an entry of the list, and the contour of lent texture, pass their checks

@@ -11,13 +11,17 @@ pub data Named : Type 0 where
   contour : Named
   nothing : Named
 
+-- what is checked of an entry whose kind is the contour: 7, it is not 0; 21, there is no texture
+abbrev pub contour_checks : ℕ → Bool → List (Bool × ℕ)
+contour_checks entry textured = (eqb entry 0, 7) ∷ (textured, 21) ∷ []
+
 -- What is checked of a kind and an entry for blocks of size n, and what they name; `textured` is whether texture is lent.
 -- Kind 0 is the pattern that the list has at the entry: 6, the entry is not below the count; 5, the pattern has a bit from n * n up.
 -- Kind 1 is the contour: 7, the entry is not 0; 21, there is no texture (no contour has a bit from n * n up). Any other kind: 7.
 abbrev pub kind_meaning : ℕ → List ℕ → ℕ → Bool → ℕ → ℕ → List (Bool × ℕ) × Named
 kind_meaning n list count textured zero entry =
     ((ltb entry count, 6) ∷ (word_ok n (get_or list entry 0), 5) ∷ [], listed (get_or list entry 0))
-kind_meaning n list count textured (suc zero) entry = ((eqb entry 0, 7) ∷ (textured, 21) ∷ [], contour)
+kind_meaning n list count textured (suc zero) entry = (contour_checks entry textured, contour)
 kind_meaning n list count textured (suc (suc k)) entry = ((false, 7) ∷ [], nothing)
 
 -- the first check of kind and entry that fails, then the rest

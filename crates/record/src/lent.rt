@@ -4,14 +4,15 @@ ghost use Rattle.record.specs.Lent.{unsigned, lent_number, record_in, fields_of}
 
 use crate::Record;
 
-// A lent number as a kind or an entry: a negative one is read as 2147483648, which neither can be.
+// A lent number as a kind or an entry: a negative one is read as 2147483648, which neither can be. Every lent number is read as some
+// record, which is judged where it is used, so that there is no `None` here.
 fn unsigned_of(z: i32) -> u32
     ensures { result ≡ unsigned z }
 {
     u32::try_from(z).unwrap_or(2147483648)
 }
 
-// A kind or an entry as it is lent, and -1 for one from 2147483648 up.
+// A kind or an entry as it is lent, and -1 for one from 2147483648 up, since every record is lent as some four numbers.
 #[tactic(auto, unfolding(crate::specs::Lent::lent_number))]
 fn number_of(k: u32) -> i32
     ensures { result ≡ lent_number k }
