@@ -1,6 +1,6 @@
 -- A numeral is the decimal text of its number.
 use Prim.Native.Nat.{ℕ, zero, suc, ◌+◌, ◌/◌, ◌%◌, ◌^◌, ◌≤◌, ◌<◌, ◌*◌, zero-le}
-use mathlib.Core.Path.{◌≡◌, sym, ◌∙◌, ap}
+use mathlib.Core.Path.{◌≡◌, refl, sym, ◌∙◌, ap}
 use mathlib.Core.List.{List, [], ◌∷◌, ◌++◌}
 use mathlib.Core.Logic.{⊎_elim}
 use native.Mathlib.Omega.{arith}
@@ -14,6 +14,7 @@ use Rattle.std.specs.Fmt.{decimal, signed_decimal}
 use Rattle.std.proofs.lemmas.Fmt.{decimal_digit, decimal_step}
 use Rattle.record_text.specs.Numeral.{digits_of, further_digits, numeral, signed_numeral, numeral_end}
 use Rattle.record_text.specs.Field.{number_text, signed_text}
+use Rattle.record_text.proofs.LengthLaws.{signed_le}
 use Rattle.record_text.proofs.NumeralLaws.{ten-pow, digit-before, further-high, further-low}
 
 -- the last of the digits
@@ -67,15 +68,6 @@ signed_numeral_decimal (negsuc n) h = ap (λ (s : List ℕ). 45 ∷ s) (numeral_
 
 -- ---- a field: a numeral and the byte e after it
 
--- of a number that is not below 0
-module _ (e n : ℕ) (s : List ℕ) (q : s ≡ decimal n) (h : n < numeral_end) where
-  pub number_field : s ++ (e ∷ []) ≡ number_text e n
-  unfolding number_text
-  number_field = ap (λ (t : List ℕ). t ++ (e ∷ [])) (q ∙ numeral_decimal n h)
-
-  pub number_field_length : length s + 1 ≡ length (number_text e n)
-  number_field_length = sym (length-append s (e ∷ [])) ∙ ap length number_field
-
 -- of a signed number, as a word of the machine holds it
 module _ (e : ℕ) (z : ℤ) (s : List ℕ) (q : s ≡ signed_decimal (to_z w64 (of_z w64 z))) (f : SFits w64 z) (h : nat_abs z < numeral_end) where
   pub signed_field : s ++ (e ∷ []) ≡ signed_text e z
@@ -84,3 +76,12 @@ module _ (e : ℕ) (z : ℤ) (s : List ℕ) (q : s ≡ signed_decimal (to_z w64 
 
   pub signed_field_length : length s + 1 ≡ length (signed_text e z)
   signed_field_length = sym (length-append s (e ∷ [])) ∙ ap length signed_field
+
+  -- it has at most seven bytes
+  pub signed_field_short : length s + 1 ≤ 7
+  signed_field_short = omega (arith, signed_field_length, signed_le e z)
+
+-- a number that is not below 0 stands there without a sign
+pub plain_field : (e n : ℕ) → signed_text e (pos n) ≡ number_text e n
+unfolding signed_text number_text signed_numeral
+plain_field e n = refl

@@ -18,7 +18,7 @@ use Rattle.record_text.specs.Line.{line_text}
 use Rattle.record_print.specs.Put.{signed_printable}
 
 -- a number that has a numeral stands for itself in a word of the machine
-word_back : (z : ℤ) → signed_printable z ≡ true → to_z w64 (of_z w64 z) ≡ z
+pub word_back : (z : ℤ) → signed_printable z ≡ true → to_z w64 (of_z w64 z) ≡ z
 word_back z h = to_z-of_z w64 z (fits z (ltb-true (nat_abs z) numeral_end h))
   where
     fits : (z : ℤ) → nat_abs z < numeral_end → SFits w64 z

@@ -1,13 +1,12 @@
 -- Writing a text that is given whole, and a line that is made apart first.
 use Prim.Native.Nat.{ℕ, ◌+◌, ◌≤◌, ◌<◌}
 use mathlib.Core.Path.{◌≡◌, refl, sym, ◌∙◌, ap, subst}
-use mathlib.Core.Bool.{Bool, true, false, cond}
+use mathlib.Core.Bool.{Bool, true, false}
 use mathlib.Core.List.{List, [], ◌∷◌, ◌++◌}
 use native.Mathlib.Omega.{arith}
-use lib.Dec.{leb}
 use lib.IntN.{ℤ, pos, negsuc, nat_abs}
 use lib.ListN.{length, take, drop}
-use lib.Seq.{sets-eq, take_at, length-take-le}
+use lib.Seq.{sets-eq, take_at}
 use borrow.Author.Tests.{le-leb, lt-ltb}
 use Rattle.record_print.specs.declared.cursor.Cursor.{Cursor}
 use Rattle.record_text.specs.declared.fields.SizeFields.{SizeFields}
@@ -19,11 +18,7 @@ use Rattle.record_text.specs.Printable.{LinePrintable, SizePrintable, RecordPrin
 use Rattle.record_print.specs.Put.{Put, Written, Made, printed_if, line_printable, size_printable, record_printable}
 use Rattle.record_print.proofs.WriteSteps.{written-length}
 
--- no room: nothing is written
-pub put-no-room : (old text : List ℕ) (from : Cursor) → leb (from.at + length text) (length old) ≡ false → Put old old from text from
-put-no-room old text from e = record { lent = rw e; place = rw e }
-
--- room: all of it is
+-- where there is room, all of a text is written
 pub put-room :
     (old new text : List ℕ) (from next : Cursor) → from.at + length text ≤ length old → Written old new from.at text next.at → Put old new from text next
 put-room old new text from next h w =
@@ -55,22 +50,11 @@ pub put-printable :
     {b : Bool} {old new text : List ℕ} {from next : Cursor} → b ≡ true → Put old new from text next → Put old new from (printed_if b text) next
 put-printable e w = rw e w
 
--- and one of values that cannot is none
-cond_same : {A : Type 0} (b : Bool) (x : A) → x ≡ cond b x x
-cond_same true x = refl
-cond_same false x = refl
-
-pub put-unprintable : (b : Bool) (old text : List ℕ) (from : Cursor) → b ≡ false → Put old old from (printed_if b text) from
-put-unprintable b old text from e =
-    rw e
-    (record {
-      lent = cond_same (leb (from.at + 0) (length old)) old;
-      place = go (leb (from.at + 0) (length old));
-    })
-  where
-    go : (t : Bool) → from.at ≡ cond t (from.at + 0) from.at
-    go true = omega arith
-    go false = refl
+-- the same of the text as it was made
+pub put-made :
+    {b : Bool} {old new made text : List ℕ} {from next : Cursor} → b ≡ true → made ≡ text → Put old new from made next
+    → Put old new from (printed_if b text) next
+put-made {old = old} {new} {made} {text} {from} {next} e q w = put-printable e (subst (λ (x : List ℕ). Put old new from x next) q w)
 
 -- ---- a text made from the start of bytes of its own, and then put
 
@@ -79,13 +63,6 @@ written-made {old} {new} {text} {len} h w = record {
   inside = omega (arith, w.place, written-length w);
   is = ap (take len) (w.lent ∙ sets-eq text old 0 (omega arith)) ∙ take_at text (drop (0 + length text) old) len (omega (arith, w.place));
 }
-
-pub made-length : {bytes text : List ℕ} {len : ℕ} → Made bytes text len → len ≡ length (take len bytes)
-made-length {bytes} {text} {len} m = sym (length-take-le len bytes m.inside)
-
-pub made-put :
-    {bytes text old new : List ℕ} {len : ℕ} {from next : Cursor} → Made bytes text len → Put old new from (take len bytes) next → Put old new from text next
-made-put {bytes} {text} {old} {new} {len} {from} {next} m w = subst (λ (x : List ℕ). Put old new from x next) m.is w
 
 -- ---- which lines can be printed
 

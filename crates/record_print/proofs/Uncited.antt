@@ -1,8 +1,8 @@
 -- Laws that no proof cites: docs/PORT.md names them.
 use Prim.Native.Nat.{ℕ, suc, ◌+◌, ◌≤◌, ◌<◌}
 use mathlib.Core.Path.{◌≡◌, refl, sym, ◌∙◌, ap, subst}
-use mathlib.Core.Bool.{Bool, true, false}
-use mathlib.Core.List.{List, ◌++◌}
+use mathlib.Core.Bool.{Bool, true, false, cond}
+use mathlib.Core.List.{List, [], ◌∷◌, ◌++◌}
 use native.Mathlib.Omega.{arith}
 use native.Mathlib.Numerals.{add-one}
 use lib.Dec.{eqb}
@@ -92,3 +92,12 @@ module _ (numbers : List ℤ) (old : List ℕ) (k : ℕ) (line : List ℕ) (p : 
       → Made line (printed_if (line_printable numbers) (line_text numbers)) p
   line_made h r e =
       all_made (line_printable numbers) (sym e ∙ ap line_printable (drop_of_length-le numbers h)) (written-made r (left-none h))
+
+-- one byte written
+pub written_byte : (l : List ℕ) (p b : ℕ) → Written l (set l p b) p (b ∷ []) (p + 1)
+written_byte l p b = record { lent = refl; place = refl }
+
+-- a choice between one value and itself
+cond_same : {A : Type 0} (b : Bool) (x : A) → x ≡ cond b x x
+cond_same true x = refl
+cond_same false x = refl

@@ -15,9 +15,6 @@ pub sets-append : (vs ws l : List ℕ) (i : ℕ) → sets l i (vs ++ ws) ≡ set
 sets-append [] ws l i = rw (add-zero i)
 sets-append (a ∷ vs) ws l i = rw (add-suc i (length vs), ← suc-add i (length vs)) (sets-append vs ws (set l i a) (suc i))
 
-pub written_byte : (l : List ℕ) (p b : ℕ) → Written l (set l p b) p (b ∷ []) (p + 1)
-written_byte l p b = record { lent = refl; place = refl }
-
 pub written_then :
     {l₀ l₁ l₂ v w : List ℕ} {p q r : ℕ} → Written l₀ l₁ p v q → Written l₁ l₂ q w r → Written l₀ l₂ p (v ++ w) r
 written_then {l₀} {l₁} {l₂} {v} {w} {p} {q} {r} a b =
@@ -32,10 +29,7 @@ written-length {l₀} {l₁} {v} {p} a = ap length a.lent ∙ length-sets l₀ p
 pub written_as : {l₀ l₁ v w : List ℕ} {p q : ℕ} → Written l₀ l₁ p v q → v ≡ w → Written l₀ l₁ p w q
 written_as {l₀} {l₁} {v} {w} {p} {q} h e = subst (λ (x : List ℕ). Written l₀ l₁ p x q) e h
 
--- ---- room for two texts: for the first, and then for the second
-
-pub room-first : (p n : ℕ) (v w : List ℕ) → p + length (v ++ w) ≤ n → p + length v ≤ n
-room-first p n v w h = omega (arith, length-append v w)
+-- ---- room for two texts: once the first is written, for the second
 
 pub room_next :
     {l₀ l₁ v : List ℕ} {p q : ℕ} (w : List ℕ) → p + length (v ++ w) ≤ length l₀ → Written l₀ l₁ p v q → q + length w ≤ length l₁

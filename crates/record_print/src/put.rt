@@ -6,8 +6,8 @@ ghost use Rattle.record_text.specs.Told.{title_text};
 ghost use Rattle.record_print.specs.Put.{Put, printed_if, number_printable};
 
 use crate::cursor::Cursor;
-use crate::write::{NUMERAL_END, write_ended};
-use itoa::Buffer;
+use crate::write::{NUMERAL_END, push_field};
+use arrayvec::ArrayVec;
 use record_text::Title;
 
 // Whether so many bytes more go into a slice of a length, from a place on.
@@ -17,7 +17,8 @@ fn has_room(length: usize, at: usize, more: usize) -> bool
     length.checked_sub(at).is_some_and(|room| more <= room)
 }
 
-// Writes the bytes `text`, and answers the place after them.
+// Writes the bytes `text`, and answers the place after them; where there is no room it writes nothing and answers the same place, since
+// whoever prints a whole text has checked its length once.
 pub fn put_text(out: &mut [u8], from: Cursor, text: &[u8]) -> Cursor
     ensures { Put out.old out.new from text.now result }
 {
@@ -43,14 +44,9 @@ pub fn put_number(out: &mut [u8], from: Cursor, x: u32, end: u8) -> Cursor
     if x >= NUMERAL_END {
         return from;
     }
-    let mut buffer = Buffer::new();
-    let numeral = buffer.format(x).as_bytes();
-    if !has_room(out.len(), from.at, numeral.len() + 1) {
-        return from;
-    }
-    Cursor {
-        at: write_ended(out, from.at, numeral, end),
-    }
+    let mut field = ArrayVec::new();
+    push_field(&mut field, i64::from(x), end);
+    put_text(out, from, field.as_slice())
 }
 
 // The line of a table value.

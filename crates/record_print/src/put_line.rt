@@ -6,7 +6,8 @@ ghost use Rattle.record_print.specs.Put.{Put, printed_if, signed_printable, line
 
 use crate::cursor::Cursor;
 use crate::put::put_text;
-use crate::write::{NUMERAL_END, write_signed};
+use crate::write::{NUMERAL_END, push_field};
+use arrayvec::ArrayVec;
 use record::Record;
 use record_text::SizeFields;
 
@@ -28,12 +29,12 @@ fn put_line(out: &mut [u8], from: Cursor, numbers: [i64; 4]) -> Cursor
         return from;
     }
     let [first, second, third, fourth] = numbers;
-    let mut line = [0; 32]; // four fields of at most seven bytes; an array, since there is no heap
-    let next = write_signed(&mut line, 0, first, b' ');
-    let next = write_signed(&mut line, next, second, b' ');
-    let next = write_signed(&mut line, next, third, b' ');
-    let next = write_signed(&mut line, next, fourth, b'\n');
-    put_text(out, from, &line[..next])
+    let mut line = ArrayVec::new();
+    push_field(&mut line, first, b' ');
+    push_field(&mut line, second, b' ');
+    push_field(&mut line, third, b' ');
+    push_field(&mut line, fourth, b'\n');
+    put_text(out, from, line.as_slice())
 }
 
 // The line of the size; nothing where a number has no numeral.

@@ -1,31 +1,25 @@
-// Writing the texts of numbers where there is room.
-ghost use Rattle.std.specs.Prelude.{◌≡◌, ◌+◌, ◌≤◌, ◌<◌, [], ◌∷◌, ◌++◌, nat_abs, length};
+// Making the fields of a line, each a number and the byte after it.
+ghost use Rattle.std.specs.Prelude.{◌≡◌, ◌+◌, ◌≤◌, ◌<◌, ◌++◌, nat_abs, length};
 ghost use Rattle.record_text.specs.Numeral.{numeral_end};
 ghost use Rattle.record_text.specs.Field.{signed_text};
-ghost use Rattle.record_print.specs.Put.{Written};
 
+use arrayvec::ArrayVec;
 use itoa::Buffer;
 
 // Numbers from here up have no numeral.
 pub(crate) const NUMERAL_END: u32 = 100_000;
 
-// Writes a numeral and the byte `end` at a place, and answers the place after them.
-pub(crate) fn write_ended(out: &mut [u8], at: usize, numeral: &[u8], end: u8) -> usize
-    requires { at + length numeral.now + 1 ≤ length out.old }
-    ensures { Written out.old out.new at (numeral.now ++ end ∷ []) result }
-{
-    let last = at + numeral.len();
-    out[at..last].copy_from_slice(numeral);
-    out[last] = end;
-    last + 1
-}
+// The room for a line of four fields of at most seven bytes.
+pub(crate) const LINE_ROOM: usize = 32;
 
-// Writes a signed number and the byte `end` at a place, and answers the place after them.
-#[tactic(auto, using(crate::proofs::DecimalLaws::signed_field_length, crate::proofs::DecimalLaws::signed_field))]
-pub(crate) fn write_signed(out: &mut [u8], at: usize, z: i64, end: u8) -> usize
-    requires { (nat_abs z < numeral_end) × (at + length (signed_text end z) ≤ length out.old) }
-    ensures { Written out.old out.new at (signed_text end z) result }
+// Appends a signed number and the byte `end`, at most seven bytes.
+pub(crate) fn push_field(line: &mut ArrayVec<u8, LINE_ROOM>, z: i64, end: u8)
+    requires { (nat_abs z < numeral_end) × (length line.old.items + 7 ≤ 32) }
+    ensures text { line.new.items ≡ line.old.items ++ signed_text end z }
+    ensures short { length line.new.items ≤ length line.old.items + 7 }
 {
     let mut buffer = Buffer::new();
-    write_ended(out, at, buffer.format(z).as_bytes(), end)
+    let numeral = buffer.format(z).as_bytes();
+    line.try_extend_from_slice(numeral).unwrap();
+    line.push(end);
 }

@@ -9,10 +9,7 @@ ghost use Rattle.record_text.specs.Told.{parsed};
 fn digit(b: u8) -> Option<u32>
     ensures { SomeIff result (digit_in b < 10) (digit_in b) }
 {
-    match b {
-        b'0'..=b'9' => Some(u32::from(b - b'0')),
-        _ => None,
-    }
+    char::from(b).to_digit(10)
 }
 
 // At most `most` digits more after those of `first`, and the byte `end`: their value, and the bytes after them.
