@@ -1,23 +1,22 @@
 -- How the layers of a block are built, word by word: samples by value, then those below each value.
 use Prim.Native.Nat.{ℕ, zero, suc, ◌+◌, ◌-◌, ◌*◌, ◌/◌, ◌%◌, ◌^◌, ◌≤◌, ◌<◌, min}
 use mathlib.Core.Path.{◌≡◌, refl, sym, ap, ap₂, ◌∙◌}
-use mathlib.Core.Bool.{Bool, true, false}
-use mathlib.Core.List.{List}
+use mathlib.Core.Bool.{Bool, true, false, ◌||◌}
+use mathlib.Core.List.{List, []}
 use native.Mathlib.Decide.{ℕ_discrete, dec_lt}
-use native.Mathlib.Nat.{add-mul, lt_of_lt_of_le}
+use native.Mathlib.Nat.{add_comm}
 use native.Mathlib.Omega.{arith}
+use lib.Bits.{bit_or, or_block}
 use lib.Dec.{eqb, ltb}
 use lib.ListN.{length, get_or, set, replicate, length-set, get_or-replicate}
-use lib.Pow.{pow_mono}
 use lib.Seq.{get_or-set_same, get_or-set_other}
 use borrow.Author.Tests.{eq-eqb, ne_eqb, le-ltb}
 use Rattle.arith.specs.Bits.{bit, bits}
 use Rattle.arith.proofs.BitLaws.{bits-lt, bits-ext, bits-on, bits-off, bits_none, room-above}
-use Rattle.arith.proofs.ListLaws.{stored}
 use Rattle.pattern.specs.Words.{four_words}
 use Rattle.pattern.proofs.WordLaws.{four_same, four-parted}
-use Rattle.choice.specs.Layers.{word_of, EqualWords, BelowWords, BelowLayers}
-use Rattle.choice.proofs.TallyLaws.{one_more}
+use Rattle.std.proofs.lemmas.Bool.Decides.{nat_tests}
+use Rattle.choice.specs.Layers.{row_at, word_of, EqualWords, BelowWords, BelowLayers}
 
 -- ---- the words of a layer
 
@@ -39,16 +38,10 @@ words-joined f c h =
     ∙ sym (four-parted f c h)
 
 module _ (samples : List ℕ) (few : length samples ≤ 256) where
-  pub below-joined : (l : List ℕ) → BelowWords 1028 samples l → BelowLayers 257 samples l
+  pub below-joined : (l : List (List ℕ)) → BelowWords 257 samples l → BelowLayers 257 samples l
   below-joined l q v h =
-      four_same (word 0 (omega arith) (omega arith)) (word 1 (omega arith) refl) (word 2 (omega arith) refl) (word 3 (omega arith) refl)
+      four_same (q v 0 h (omega arith)) (q v 1 h (omega arith)) (q v 2 h (omega arith)) (q v 3 h (omega arith))
       ∙ words-joined (λ k. ltb (get_or samples k 0) v) (length samples) few
-    where
-      word : (i : ℕ) → i < 4 → {a : ℕ} → a ≡ 4 * v + i → get_or l a 0 ≡ word_of (λ k. ltb (get_or samples k 0) v) (length samples) i
-      word i hi {a} e =
-          let d : a / 4 ≡ v = omega arith in
-          let m : a % 4 ≡ i = omega arith in
-          q a (omega arith) ∙ ap₂ (λ (x y : ℕ). word_of (λ k. ltb (get_or samples k 0) x) (length samples) y) d m
 
 -- ---- one sample more
 
@@ -96,78 +89,110 @@ module _ (samples : List ℕ) where
   abbrev has : ℕ → ℕ → Bool
   has v k = eqb (get_or samples k 0) v
 
-  pub equal-none : EqualWords 0 samples (replicate 1024 0)
-  equal-none = (refl, λ a l. get_or-replicate 1024 a 0 0 l ∙ sym (ap (bits _) (let e : min 64 (0 - 64 * (a % 4)) ≡ 0 = omega arith in e) ∙ bits-zero _))
+  -- each row has four words
+  abbrev pub Wide : List (List ℕ) → Type 0
+  Wide l = (v : ℕ) → v < 256 → length (row_at l v) ≡ 4
 
-  module _ (k : ℕ) (l : List ℕ) (small : k < 256) (q : EqualWords k samples l) (x : ℕ) (hx : x < 256) where
-    abbrev at : ℕ
-    at = 4 * x + k / 64
+  pub wide-none : Wide (replicate 256 (replicate 4 0))
+  wide-none v h = ap (λ (r : List ℕ). length r) (get_or-replicate 256 v (replicate 4 0) [] h)
 
-    value : at / 4 ≡ x
-    value = omega arith
+  pub equal-none : EqualWords 0 samples (replicate 256 (replicate 4 0))
+  equal-none = (
+    refl,
+    λ v i l h.
+        ap (λ (r : List ℕ). get_or r i 0) (get_or-replicate 256 v (replicate 4 0) [] l)
+        ∙ get_or-replicate 4 i 0 0 h
+        ∙ sym (ap (bits _) (let e : min 64 (0 - 64 * i) ≡ 0 = omega arith in e) ∙ bits-zero _),
+  )
 
-    word : at % 4 ≡ k / 64
-    word = omega arith
+  module _ (k : ℕ) (l : List (List ℕ)) (small : k < 256) (q : EqualWords k samples l) (x : ℕ) (hx : x < 256) where
+    before : get_or (row_at l x) (k / 64) 0 ≡ word_of (has x) k (k / 64)
+    before = q.1 x (k / 64) hx (omega arith)
 
-    before : get_or l at 0 ≡ word_of (has x) k (k / 64)
-    before = q.1 at (omega arith) ∙ ap₂ (λ (v i : ℕ). word_of (has v) k i) value word
-
-    pub equal-room : get_or l at 0 + 1 * 2 ^ (k % 64) % 2 ^ 64 < 2 ^ 64
+    pub equal-room : get_or (row_at l x) (k / 64) 0 + 1 * 2 ^ (k % 64) % 2 ^ 64 < 2 ^ 64
     equal-room = word_room (has x) k before
 
-    other : x ≡ get_or samples k 0 → (a : ℕ) → a < 1024 → (at ≡ a → ⊥) → get_or l a 0 ≡ word_of (has (a / 4)) (k + 1) (a % 4)
-    other ex a h n = q.1 a h ∙ go (ℕ_discrete (a % 4) (k / 64))
-      where
-        go : Dec (a % 4 ≡ k / 64) → word_of (has (a / 4)) k (a % 4) ≡ word_of (has (a / 4)) (k + 1) (a % 4)
-        go (yes e) = word_next (has (a / 4)) k (a % 4) (ne_eqb (get_or samples k 0) (a / 4) (λ d. n (omega (arith, ex, d, e))))
-        go (no d) = word-stays (has (a / 4)) k (a % 4) d
+    -- the words of other values
+    other-value : x ≡ get_or samples k 0 → (v i : ℕ) → v < 256 → i < 4 → (v ≡ x → ⊥) → get_or (row_at l v) i 0 ≡ word_of (has v) (k + 1) i
+    other-value ex v i hv hi n = q.1 v i hv hi ∙ word_next (has v) k i (ne_eqb (get_or samples k 0) v (λ d. n (omega (arith, ex, d))))
 
-    pub equal-more : (y : ℕ) → x ≡ get_or samples k 0 → y ≡ get_or l at 0 + 1 * 2 ^ (k % 64) % 2 ^ 64 → EqualWords (k + 1) samples (set l at y)
-    equal-more y ex ey = (length-set l at y ∙ q.0, λ a h. go a h (ℕ_discrete at a))
+    pub wide-more : Wide l → (j y : ℕ) → Wide (set l x (set (row_at l x) j y))
+    wide-more w j y v h = go (ℕ_discrete v x)
       where
-        go : (a : ℕ) → a < 1024 → Dec (at ≡ a) → get_or (set l at y) a 0 ≡ word_of (has (a / 4)) (k + 1) (a % 4)
-        go a h (yes e) =
-            rw (← e)
-            (get_or-set_same l at y 0 (omega (arith, q.0))
-            ∙ word_on (has x) k before (eq-eqb (get_or samples k 0) x (sym ex)) ey
-            ∙ ap₂ (λ (v i : ℕ). word_of (has v) (k + 1) i) (sym value) (sym word))
-        go a h (no n) = get_or-set_other l at a y 0 (λ e. n (sym e)) ∙ other ex a h n
+        go : Dec (v ≡ x) → length (row_at (set l x (set (row_at l x) j y)) v) ≡ 4
+        go (yes e) =
+            rw e
+            (ap (λ (r : List ℕ). length r) (get_or-set_same l x _ [] (omega (arith, q.0))) ∙ length-set (row_at l x) j y ∙ w x hx)
+        go (no n) = ap (λ (r : List ℕ). length r) (get_or-set_other l x v _ [] n) ∙ w v h
+
+    pub equal-more :
+        (y : ℕ) → x ≡ get_or samples k 0 → y ≡ get_or (row_at l x) (k / 64) 0 + 1 * 2 ^ (k % 64) % 2 ^ 64 → Wide l
+        → EqualWords (k + 1) samples (set l x (set (row_at l x) (k / 64) y))
+    equal-more y ex ey w = (length-set l x _ ∙ q.0, λ v i hv hi. go v i hv hi (ℕ_discrete v x) (ℕ_discrete i (k / 64)))
+      where
+        go : (v i : ℕ) → v < 256 → i < 4 → Dec (v ≡ x) → Dec (i ≡ k / 64)
+            → get_or (row_at (set l x (set (row_at l x) (k / 64) y)) v) i 0 ≡ word_of (has v) (k + 1) i
+        go v i hv hi (yes e) (yes d) =
+            rw (e, d)
+            (ap (λ (r : List ℕ). get_or r (k / 64) 0) (get_or-set_same l x _ [] (omega (arith, q.0)))
+            ∙ get_or-set_same (row_at l x) (k / 64) y 0 (omega (arith, w x hx))
+            ∙ word_on (has x) k before (eq-eqb (get_or samples k 0) x (sym ex)) ey)
+        go v i hv hi (yes e) (no n) =
+            rw e
+            (ap (λ (r : List ℕ). get_or r i 0) (get_or-set_same l x _ [] (omega (arith, q.0)))
+            ∙ get_or-set_other (row_at l x) (k / 64) i y 0 n
+            ∙ q.1 x i hx hi
+            ∙ word-stays (has x) k i n)
+        go v i hv hi (no n) _ =
+            ap (λ (r : List ℕ). get_or r i 0) (get_or-set_other l x v _ [] n) ∙ other-value ex v i hv hi n
 
 -- ---- samples below each value
 
--- of a row of numbers: those below v and those that are v are those below v + 1
-below_step : (s : ℕ → ℕ) (c v : ℕ) → bits (λ k. ltb (s k) v) c + bits (λ k. eqb (s k) v) c ≡ bits (λ k. ltb (s k) (v + 1)) c
+or-digit : (a b : Bool) → bit_or (bit a) (bit b) ≡ bit (a || b)
+or-digit true true = refl
+or-digit true false = refl
+or-digit false true = refl
+or-digit false false = refl
+
+-- the bits that either of two rows has
+bits_or : (f g : ℕ → Bool) (c : ℕ) → bit_or (bits f c) (bits g c) ≡ bits (λ k. f k || g k) c
 unfolding bits
-below_step s zero v = refl
-below_step s (suc c) v =
-    let x = s c in
-    let d = one_more x v (ltb x (v + 1)) (ltb x v) (eqb x v) refl refl refl in
-    let p : bit (ltb x (v + 1)) * 2 ^ c ≡ (bit (ltb x v) + bit (eqb x v)) * 2 ^ c = ap (λ (n : ℕ). n * 2 ^ c) d in
-    omega (arith, below_step s c v, p, add-mul (bit (ltb x v)) (bit (eqb x v)) (2 ^ c))
+bits_or f g zero = refl
+bits_or f g (suc c) =
+    ap₂ bit_or (add_comm (bits f c) (bit (f c) * 2 ^ c)) (add_comm (bits g c) (bit (g c) * 2 ^ c))
+    ∙ or_block c (bit (f c)) (bit (g c)) (bits f c) (bits g c) (bits-lt f c) (bits-lt g c)
+    ∙ ap₂ (λ (x y : ℕ). x * 2 ^ c + y) (or-digit (f c) (g c)) (bits_or f g c)
+    ∙ add_comm (bit (f c || g c) * 2 ^ c) (bits (λ k. f k || g k) c)
+
+-- those below v and those that are v are those below v + 1
+below_or : (x v : ℕ) → (ltb x v || eqb x v) ≡ ltb x (v + 1)
+below_or x v = grind (arith, nat_tests)
 
 module _ (samples : List ℕ) where
   abbrev m : ℕ
   m = length samples
 
-  abbrev under : ℕ → ℕ → Bool
-  under v k = ltb (get_or samples k 0) v
+  pub below-first : (l : List (List ℕ)) → 0 < length l → BelowWords 1 samples (set l 0 (replicate 4 0))
+  below-first l h v i hv hi =
+      let z : v ≡ 0 = omega arith in
+      rw z
+      (ap (λ (r : List ℕ). get_or r i 0) (get_or-set_same l 0 _ [] h)
+      ∙ get_or-replicate 4 i 0 0 hi
+      ∙ sym (bits-ext _ (λ _. false) (min 64 (m - 64 * i)) (λ j _. le-ltb (get_or samples (64 * i + j) 0) 0 (omega arith)) ∙ bits_none _))
 
-  pub below-first : (l : List ℕ) → ((a : ℕ) → a < 4 → get_or l a 0 ≡ 0) → BelowWords 4 samples l
-  below-first l e a h =
-      let z : a / 4 ≡ 0 = omega arith in
-      e a h ∙ sym (bits-ext _ (λ _. false) (min 64 (m - 64 * (a % 4))) (λ j _. le-ltb (get_or samples (64 * (a % 4) + j) 0) (a / 4) (omega arith)) ∙ bits_none _)
-
-  module _ (a x y : ℕ) (l : List ℕ) (q : BelowWords (a + 4) samples l) (ex : x ≡ get_or l a 0) (ey : y ≡ word_of (λ k. eqb (get_or samples k 0) (a / 4)) m (a % 4)) where
-    next : x + y ≡ word_of (under ((a + 4) / 4)) m ((a + 4) % 4)
-    next =
-        let d : a / 4 + 1 ≡ (a + 4) / 4 = omega arith in
-        let e : a % 4 ≡ (a + 4) % 4 = omega arith in
-        ap₂ ◌+◌ (ex ∙ q a (omega arith)) ey
-        ∙ below_step (λ j. get_or samples (64 * (a % 4) + j) 0) (min 64 (m - 64 * (a % 4))) (a / 4)
-        ∙ ap₂ (λ (v i : ℕ). word_of (under v) m i) d e
-
-    pub below-fits : x + y < 2 ^ 64
-    below-fits = rw next (lt_of_lt_of_le (bits-lt _ (min 64 (m - 64 * ((a + 4) % 4)))) (pow_mono {i = min 64 (m - 64 * ((a + 4) % 4))} {j = 64} (omega arith)))
-
-    pub below_more : a + 4 < length l → BelowWords (a + 1 + 4) samples (set l (a + 4) (x + y))
-    below_more h b g = stored (λ t. word_of (under (t / 4)) m (t % 4)) 0 l (a + 4) (x + y) h next q b (omega arith)
+  -- a row more: at each word the bits of the row before and of the next value
+  pub below_more :
+      (v : ℕ) (l equal : List (List ℕ)) (row : List ℕ) → BelowWords (v + 1) samples l → EqualWords m samples equal → v < 256 → v + 1 < length l
+      → ((i : ℕ) → i < 4 → get_or row i 0 ≡ bit_or (get_or (row_at l v) i 0) (get_or (row_at equal v) i 0))
+      → BelowWords (v + 1 + 1) samples (set l (v + 1) row)
+  below_more v l equal row q e hv room r w i hw hi = go (ℕ_discrete w (v + 1))
+    where
+      go : Dec (w ≡ v + 1) → get_or (row_at (set l (v + 1) row) w) i 0 ≡ word_of (λ k. ltb (get_or samples k 0) w) m i
+      go (yes d) =
+          rw d
+          (ap (λ (x : List ℕ). get_or x i 0) (get_or-set_same l (v + 1) row [] room)
+          ∙ r i hi
+          ∙ ap₂ bit_or (q v i (omega arith) hi) (e.1 v i hv hi)
+          ∙ bits_or _ _ (min 64 (m - 64 * i))
+          ∙ bits-ext _ _ (min 64 (m - 64 * i)) (λ j _. below_or (get_or samples (64 * i + j) 0) v))
+      go (no n) = ap (λ (x : List ℕ). get_or x i 0) (get_or-set_other l (v + 1) w row [] n) ∙ q w i (omega arith) hi

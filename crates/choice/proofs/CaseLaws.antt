@@ -7,12 +7,12 @@ use mathlib.Core.List.{List}
 use native.Mathlib.Nat.{mul-le-mul, pow-suc, mod-eq_of_lt}
 use native.Mathlib.Omega.{arith}
 use lib.Dec.{eqb}
-use lib.ListN.{length}
+use lib.ListN.{get_or, length}
 use lib.Pow.{pow_mono}
 use borrow.Author.Tests.{lt-ltb, le-leb, lt-leb}
 use Rattle.arith.specs.Bits.{bit, test_bit}
 use Rattle.arith.specs.Checks.{Answer, given, answer}
-use Rattle.arith.proofs.BitLaws.{low_bit, high_bit, bit_past}
+use Rattle.arith.proofs.BitLaws.{digit-le, low_bit, high_bit, bit_past}
 use Rattle.arith.proofs.CheckLaws.{answer-given}
 use Rattle.pattern.specs.Pattern.{mark}
 use Rattle.pattern.specs.Size.{greatest_size, size_ok}
@@ -27,10 +27,6 @@ use Rattle.prediction.proofs.SideLaws.{origin-bit, vert-edge-bits, hor-edge-bits
 use Rattle.choice.specs.Cases.{side_case, row_word, corner_word, depth_in}
 
 -- ---- the pattern of a case
-
-digit-le : (b : Bool) (p : ℕ) → bit b * p ≤ p
-digit-le true p = omega arith
-digit-le false p = omega arith
 
 digit_lt : (b : Bool) → bit b < 2
 digit_lt true = omega arith
@@ -161,7 +157,7 @@ other-case n w e = ap (λ (x : ℕ). (x + 4) % 8) e ∙ other-by (mark n w 0 0) 
 
 -- the depths as the code looks them up, by a pattern p of the case
 pub corner-depths :
-    (n : ℕ) (s : List ℕ) (k : ℕ) (p : Pattern) {x : Answer (ℕ × ℕ)} → size_ok n ≡ true → length s ≡ 4 * n → p.w0 < 2 ^ 64
+    (n : ℕ) (s : List ℕ) (k : ℕ) (p : Pattern) {x : Answer (ℕ × ℕ)} → size_ok n ≡ true → length s ≡ 4 * n → get_or p.words 0 0 < 2 ^ 64
     → pattern_number p ≡ corner_word n k → x ≡ sides_answer n (used_number n p) s → x ≡ given (lt n (corner_word n k) s, br n (corner_word n k) s)
 unfolding sides_answer
 corner-depths n s k p ok e narrow ew ex =

@@ -22,7 +22,7 @@ use Rattle.arith.proofs.Sums.{sum-ext, sum-add}
 use Rattle.depth_table.proofs.TableLaws.{table-bytes, table-rises}
 use Rattle.choice.specs.Cost.{side_cost}
 use Rattle.choice.specs.Tally.{side_count, side_size, side_below}
-use Rattle.choice.specs.Layers.{layer_at, below_word, Parted}
+use Rattle.choice.specs.Layers.{below_word, Parted}
 use Rattle.choice.specs.Trial.{Better, TrialOf}
 use Rattle.choice.specs.Turn.{Convex, BestLevel, twice, Turn, UpTried, DownTried, offset_cost, Findable, number_to}
 use Rattle.choice.proofs.LayerLaws.{xor-bit, below-count}
@@ -38,20 +38,6 @@ side-convex c samples w m =
       step = λ v. rw add-one at (cost_step c samples w m v);
       more = λ v. let e = rw add-one at (below_step c samples w m v) in omega arith;
     }
-
--- the count on the words, as the code makes it
-pub twice-by :
-    (below : List ℕ) (word : ℕ) (table : List ℕ) (plus j : ℕ) {n u : ℕ} → n ≡ ones (bit_and word (layer_at below u)) → u ≡ get_or table j 0 + plus
-    → 2 * n ≡ twice below word table plus j
-twice-by below word table plus j e q = ap (λ (x : ℕ). 2 * x) (e ∙ ap (λ (x : ℕ). ones (bit_and word (layer_at below x))) q)
-
--- what is better, with the costs as the definition has them
-pub better-by :
-    {a b near far near' far' number cost : ℕ} → near ≡ near' → far ≡ far' → Better a near b far number cost → Better a near' b far' number cost
-better-by {near = near} {far = far} e q h = rw (← e, ← q) h
-
-pub better-small : {a b near far number cost : ℕ} → near ≤ 65280 → far ≤ 65280 → Better a near b far number cost → cost ≤ 65280
-better-small n f = ⊎_elim (λ w. omega (arith, w.2)) (λ w. omega (arith, w.2))
 
 -- a partition as a part: the pattern that marks the samples that belong to it, its own marks or all others of the block
 marked-or-not : (b : Bool) → cond b (not true) true ≡ not b
@@ -104,7 +90,7 @@ number-under i j h = go (dec_lt j i)
     go (yes l) = rw (lt-leb i j l)
     go (no l) = rw (le-leb i j (omega arith)) (omega arith)
 
-module _ (samples below sums : List ℕ) (word size sum : ℕ) (q : Parted samples below sums word size sum) (table : List ℕ) (i R : ℕ) (f : Findable table i R) where
+module _ (samples : List ℕ) (below sums : List (List ℕ)) (word size sum : ℕ) (q : Parted samples below sums word size sum) (table : List ℕ) (i R : ℕ) (f : Findable table i R) where
   abbrev c : ℕ
   c = length samples
 
@@ -201,15 +187,15 @@ module _ (samples below sums : List ℕ) (word size sum : ℕ) (q : Parted sampl
 
   -- neither upward nor downward: the index itself
   pub here_found :
-      {cost : ℕ} → (hi ≤ i) ⊎ (size ≤ twice below word table 1 i) → (i ≤ lo) ⊎ (twice below word table 0 i ≤ size) → cost ≡ F i
-      → TrialOf (offset_cost samples word true table i) (2 * R) 0 cost
-  here_found u d ec =
+      {number cost : ℕ} → (hi ≤ i) ⊎ (size ≤ twice below word table 1 i) → (i ≤ lo) ⊎ (twice below word table 0 i ≤ size)
+      → number ≡ number_to i i → cost ≡ F i → TrialOf (offset_cost samples word true table i) (2 * R) number cost
+  here_found u d en ec =
       trial-up
       (best-here (side_cost c samples word true) under size convex T count lo hi i rising (omega arith) hi-above hi-below
       (⊎_elim (λ e. inl e) (λ h. inr (omega (arith, twice-after i))) u)
       (⊎_elim (λ e. inl e) (λ h. inr (omega (arith, twice-at i))) d))
       (omega arith)
-      (omega arith)
+      (en ∙ number-above i i (omega arith))
       ec
 
   -- the same from the turn and the better of the levels next to it

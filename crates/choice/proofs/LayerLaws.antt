@@ -1,11 +1,11 @@
 -- Layers of samples: a part's samples in a layer are counted on the words.
 use Prim.Native.Nat.{ℕ, zero, suc, ◌+◌, ◌*◌, ◌/◌, ◌%◌, ◌^◌, ◌≤◌, ◌<◌, min}
-use mathlib.Core.Path.{◌≡◌, refl, sym, ap, ◌∙◌}
+use mathlib.Core.Path.{◌≡◌, refl, ap, ◌∙◌}
 use mathlib.Core.Bool.{Bool, true, false, cond, not, ◌&&◌}
 use mathlib.Core.List.{List}
 use native.Mathlib.Nat.{lt_of_le_of_lt, lt_of_lt_of_le}
 use native.Mathlib.Omega.{arith}
-use lib.Bits.{bit_and, bit_xor, differ, and_shr, and_step, and_le_l, and_block, xor_shr, xor_step, xor_block}
+use lib.Bits.{bit_and, bit_xor, differ, and_shr, and_step, and_le_l, xor_shr, xor_step}
 use lib.Count.{ones}
 use lib.Dec.{eqb, ltb}
 use lib.ListN.{get_or}
@@ -14,7 +14,6 @@ use Rattle.arith.specs.Bits.{bit, bits, test_bit}
 use Rattle.arith.specs.Sum.{sum_to}
 use Rattle.arith.proofs.BitLaws.{bits_at, ones-bits}
 use Rattle.arith.proofs.Sums.{sum-ext}
-use Rattle.pattern.specs.Words.{joined, four_words}
 use Rattle.choice.specs.Tally.{side_count, side_size, side_below}
 use Rattle.choice.specs.Layers.{below_word}
 
@@ -76,30 +75,6 @@ module _ (c w : ℕ) (f : ℕ → Bool) (small : w < 2 ^ c) where
 
   common-ones : ones (bit_and w (bits f c)) ≡ sum_to (λ k. bit (test_bit w k && f k)) c
   common-ones = ones-bits c (bit_and w (bits f c)) common-lt ∙ sum-ext _ _ c (λ k l. ap bit (common-bit k l))
-
--- ---- word by word
-
-module _ (op : ℕ → ℕ → ℕ) (block : (k a b r s : ℕ) → r < 2 ^ k → s < 2 ^ k → op (a * 2 ^ k + r) (b * 2 ^ k + s) ≡ op a b * 2 ^ k + op r s) where
-  by-words :
-      (a b c d a' b' c' d' : ℕ) → a < 2 ^ 64 → b < 2 ^ 64 → c < 2 ^ 64 → a' < 2 ^ 64 → b' < 2 ^ 64 → c' < 2 ^ 64
-      → op (four_words a b c d) (four_words a' b' c' d') ≡ four_words (op a a') (op b b') (op c c') (op d d')
-  unfolding four_words
-  by-words a b c d a' b' c' d' p q r p' q' r' =
-      block 64 (joined (joined d c) b) (joined (joined d' c') b') a a' p p'
-      ∙ ap (λ (x : ℕ). joined x (op a a'))
-      (block 64 (joined d c) (joined d' c') b b' q q' ∙ ap (λ (x : ℕ). joined x (op b b')) (block 64 d d' c c' r r'))
-
--- the bits in which two patterns differ
-pub four-xor :
-    (a b c d a' b' c' d' : ℕ) → a < 2 ^ 64 → b < 2 ^ 64 → c < 2 ^ 64 → a' < 2 ^ 64 → b' < 2 ^ 64 → c' < 2 ^ 64
-    → four_words (bit_xor a a') (bit_xor b b') (bit_xor c c') (bit_xor d d') ≡ bit_xor (four_words a b c d) (four_words a' b' c' d')
-four-xor a b c d a' b' c' d' p q r p' q' r' = sym (by-words bit_xor xor_block a b c d a' b' c' d' p q r p' q' r')
-
--- the samples that two patterns share
-pub four-and :
-    (a b c d a' b' c' d' : ℕ) → a < 2 ^ 64 → b < 2 ^ 64 → c < 2 ^ 64 → a' < 2 ^ 64 → b' < 2 ^ 64 → c' < 2 ^ 64
-    → four_words (bit_and a a') (bit_and b b') (bit_and c c') (bit_and d d') ≡ bit_and (four_words a b c d) (four_words a' b' c' d')
-four-and a b c d a' b' c' d' p q r p' q' r' = sym (by-words bit_and and_block a b c d a' b' c' d' p q r p' q' r')
 
 -- a pattern of at most 64 samples fits in one word
 pub one-word : (c w : ℕ) → c ≤ 64 → w < 2 ^ c → w < 2 ^ 64

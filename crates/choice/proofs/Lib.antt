@@ -20,3 +20,4 @@ pub mod BuildLaws
 pub mod FindLaws
 pub mod ReachLaws
 pub mod ToldLaws
+pub mod Uncited

@@ -52,7 +52,7 @@ pub record Sums (v count size lower sum cost : ℕ) : Type 0 where
   pub sum_small : sum ≤ 65280
   pub cost_small : cost ≤ 65280
 
-module _ (samples below sums : List ℕ) (word size sum : ℕ) (q : Parted samples below sums word size sum) (v : ℕ) (hv : v < 256) where
+module _ (samples : List ℕ) (below sums : List (List ℕ)) (word size sum : ℕ) (q : Parted samples below sums word size sum) (v : ℕ) (hv : v < 256) where
   abbrev c : ℕ
   c = length samples
 

@@ -1,30 +1,30 @@
 -- What the search over the patterns relies on and keeps: every pattern can be weighed, and the first of least cost so far is held with its
 -- offsets.
-use Prim.Native.Nat.{ℕ, ◌+◌, ◌-◌, ◌*◌, ◌≤◌, ◌<◌, zero-le}
+use Prim.Native.Nat.{ℕ, ◌+◌, ◌-◌, ◌*◌, ◌≤◌, ◌<◌}
 use mathlib.Core.Path.{◌≡◌, refl, sym, ap, ap₂, subst, ◌∙◌}
-use mathlib.Core.Bool.{Bool, true, false}
-use mathlib.Core.List.{List, [], ◌∷◌}
+use mathlib.Core.Bool.{Bool, true, false, cond}
+use mathlib.Core.List.{List}
 use mathlib.Core.Logic.{◌⊎◌, inl, inr, ⊎_elim}
 use native.Mathlib.Decide.{dec_lt}
 use native.Mathlib.Omega.{arith}
-use lib.Dec.{ltb}
-use lib.ListN.{length, get_or}
+use lib.ListN.{length}
 use borrow.Author.Tests.{eq-eqb, lt-ltb, le-ltb}
-use Rattle.arith.specs.Checks.{Answer, refused, given}
-use Rattle.arith.proofs.BitLaws.{bits-ext, bits_none}
+use native.Mathlib.Nat.{mul-le-mul}
 use Rattle.arith.proofs.CheckLaws.{given-means, refused-means}
 use Rattle.arith.proofs.LeastLaws.{Kept, kept-one, kept_new, kept-old, kept-all}
 use Rattle.depth_table.proofs.TableLaws.{table-counts}
-use Rattle.std.specs.Prelude.{Result, Ok, Err}
-use Rattle.std.specs.Result.{result_unwrap_or}
-use Rattle.pattern.specs.Refusal.{told}
+use Rattle.std.specs.Prelude.{Result, Ok, Err, Option, Some, None, option_map}
+use Rattle.std.specs.Option.{is_some}
+use Rattle.std.specs.Result.{result_ok}
+use Rattle.pattern.specs.Refusal.{told, number_of}
 use Rattle.pattern.specs.Words.{pattern_number}
 use Rattle.pattern.specs.declared.refusals.Refusal.{Refusal}
 use Rattle.pattern.specs.declared.words.Pattern.{Pattern}
 use Rattle.pattern.specs.Size.{size_ok, word_ok}
 use Rattle.pattern.specs.Answer.{samples_refusal, contour_answer, textured}
 use Rattle.std.proofs.lemmas.Bool.{false≢true}
-use Rattle.pattern.specs.Contour.{threshold, contour_of}
+use Rattle.pattern.specs.Contour.{contour_of}
+use Rattle.pattern.proofs.AnswerLaws.{samples-fit}
 use Rattle.pattern.proofs.ContourLaws.{contour-lt}
 use Rattle.prediction.proofs.SideCallLaws.{sides-pass}
 use Rattle.choice.specs.Trial.{trial_over, TrialOf, tried_by}
@@ -32,7 +32,7 @@ use Rattle.choice.specs.Case.{Case, reach_in_use}
 use Rattle.choice.proofs.AcceptLaws.{Accepted, words-at}
 use Rattle.choice.proofs.OffsetLaws.{reach-again}
 use Rattle.choice.proofs.TrialLaws.{best-told, tried-told}
-use Rattle.choice.specs.Search.{trial_cost, best_cost, tried_at, pattern_at, last_pattern, best_pattern, tried_to, tried}
+use Rattle.choice.specs.Search.{contour_lent, trial_cost, best_cost, tried_at, pattern_at, last_pattern, best_pattern, tried_to, tried}
 use Rattle.choice.specs.Picked.{block_case, Weighable, SidesOf, PickedOf}
 
 -- ---- one pattern
@@ -74,49 +74,54 @@ module _ (C : Case) (w : ℕ) {a b c d : ℕ} where
 
 -- ---- the contour
 
-none-at : (t : List ℕ) → length t ≡ 0 → (i : ℕ) → get_or t i 0 ≡ 0
-none-at [] e i = refl
-none-at (a ∷ t) e i = absurd (omega arith)
-
--- without texture nothing is marked
-pub contour-none : (n : ℕ) (t : List ℕ) → length t ≡ 0 → 0 ≡ contour_of n t
-unfolding contour_of
-contour-none n t e =
-    sym (bits-ext _ _ (n * n) (λ i l. ap (ltb (threshold n t)) (none-at t e i) ∙ le-ltb (threshold n t) 0 zero-le) ∙ bits_none (n * n))
-
 pub texture-judged : (n texture : ℕ) → size_ok n ≡ true → (texture ≡ 0) ⊎ (texture ≡ n * n) → (texture ≡ 0) ⊎ (samples_refusal n texture ≡ 0)
 unfolding samples_refusal
 texture-judged n texture ok = ⊎_elim (λ e. inl e) (λ e. inr (rw (ok, eq-eqb texture (n * n) e)))
 
--- what `contour` answers
-pub contour-word : (n : ℕ) (t : List ℕ) {w : ℕ} {r : Answer ℕ} → r ≡ contour_answer n t → r ≡ given w → w ≡ contour_of n t
+-- what `contour` answers, as an `Option`
+pub contour-or-none :
+    (n : ℕ) (t : List ℕ) (r : Result Pattern Refusal) → (length t ≡ 0) ⊎ (samples_refusal n (length t) ≡ 0)
+    → told pattern_number r ≡ contour_answer n t → option_map pattern_number (result_ok r) ≡ contour_lent n t
 unfolding contour_answer
-contour-word n t {w} e q = sym (given-means (samples_refusal n (length t)) (contour_of n t) w (sym e ∙ q)).1
+contour-or-none n t (Ok p) h e =
+    let g = given-means (samples_refusal n (length t)) (contour_of n t) (pattern_number p) (sym e) in
+    let f = samples-fit n (length t) g.0 in
+    rw (lt-ltb 0 (length t) (omega (arith, f.square, mul-le-mul f.low f.low))) (ap Some (sym g.1))
+contour-or-none n t (Err x) h e =
+    ⊎_elim
+    (λ z. rw (le-ltb 0 (length t) (omega (arith, z))) refl)
+    (λ z. absurd ((refused-means (samples_refusal n (length t)) (number_of x) (contour_of n t) (sym e)).1 z))
+    h
 
-pub contour-refused :
-    (n : ℕ) (t : List ℕ) {k : ℕ} {r : Answer ℕ} → (length t ≡ 0) ⊎ (samples_refusal n (length t) ≡ 0) → r ≡ contour_answer n t → r ≡ refused k
-    → 0 ≡ contour_of n t
-unfolding contour_answer
-contour-refused n t {k} h e q =
-    ⊎_elim (λ z. contour-none n t z) (λ z. absurd ((refused-means (samples_refusal n (length t)) k (contour_of n t) (sym e ∙ q)).1 z)) h
+some-map : (o : Option Pattern) → is_some (option_map pattern_number o) ≡ is_some o
+some-map (Some p) = refl
+some-map None = refl
 
--- the contour that `contour` gives, or else no marks
-pub contour-or :
-    (n : ℕ) (t : List ℕ) (r : Result Pattern Refusal) (none : Pattern) → (length t ≡ 0) ⊎ (samples_refusal n (length t) ≡ 0)
-    → told pattern_number r ≡ contour_answer n t → pattern_number none ≡ 0 → pattern_number (result_unwrap_or r none) ≡ contour_of n t
-contour-or n t (Ok p) none h e z = contour-word n t e refl
-contour-or n t (Err r) none h e z = z ∙ contour-refused n t h e refl
+some-cond : (b : Bool) (x : ℕ) → is_some (cond b (Some x) None) ≡ b
+some-cond true x = refl
+some-cond false x = refl
+
+-- the contour of the texture is there where texture is lent
+pub lent-textured :
+    (n : ℕ) (t : List ℕ) (o : Option Pattern) → option_map pattern_number o ≡ contour_lent n t → is_some o ≡ textured t
+lent-textured n t o e = sym (some-map o) ∙ ap is_some e ∙ some-cond (textured t) (contour_of n t)
+
+-- past the entries there is a pattern only where texture is lent
+pub past-entries : (C : Case) → Accepted C → (p : ℕ) → p ≤ last_pattern C → C.count ≤ p → textured C.texture ≡ true
+past-entries C k p l h = go (textured C.texture) refl
+  where
+    go : (b : Bool) → textured C.texture ≡ b → textured C.texture ≡ true
+    go true e = e
+    go false e =
+        let low : p ≤ C.count - 1 = rw e at l in
+        ⊎_elim (λ (some : 0 < C.count). absurd (omega (arith, some, low, h))) (λ t. t) k.some
 
 -- how many patterns there are: with texture one more than entries, and without it as many, of which there is one at least
-pub entries-contour : (C : Case) → 0 < length C.texture → C.count + 1 ≡ last_pattern C + 1
-entries-contour C h = rw (lt-ltb 0 (length C.texture) h)
+pub entries-contour : (C : Case) → textured C.texture ≡ true → C.count + 1 ≡ last_pattern C + 1
+entries-contour C h = rw h
 
-pub entries-alone : (C : Case) → Accepted C → length C.texture ≡ 0 → C.count ≡ last_pattern C + 1
-entries-alone C k e =
-    ⊎_elim (λ (h : 0 < C.count). rw (none-textured e) (omega arith)) (λ t. absurd (false≢true (sym (none-textured e) ∙ t))) k.some
-  where
-    none-textured : length C.texture ≡ 0 → textured C.texture ≡ false
-    none-textured e = le-ltb 0 (length C.texture) (omega arith)
+pub entries-alone : (C : Case) → Accepted C → textured C.texture ≡ false → C.count ≡ last_pattern C + 1
+entries-alone C k e = ⊎_elim (λ (h : 0 < C.count). rw e (omega arith)) (λ t. absurd (false≢true (sym e ∙ t))) k.some
 
 -- ---- every pattern of an accepted case can be weighed
 
@@ -143,32 +148,19 @@ pub record KeptSides (C : Case) (n at a b cost : ℕ) : Type 0 where
   pub kept : Kept (λ p. best_cost C (pattern_at C p)) n at cost
   pub sides : SidesOf C (pattern_at C at) a b cost
 
--- before the first pattern: a cost above all
-abbrev pub above_all : ℕ
-above_all = 130561
-
-abbrev pub SidesSoFar : Case → ℕ → ℕ → ℕ → ℕ → ℕ → Type 0
-SidesSoFar C n at a b cost = ((n ≡ 0) × (cost ≡ above_all)) ⊎ KeptSides C n at a b cost
-
 module _ (C : Case) where
-  sides-one : {n a b c : ℕ} → n ≡ 0 → SidesOf C (pattern_at C n) a b c → KeptSides C (n + 1) n a b c
-  sides-one {a = a} {b = b} {c = c} e p =
-      rw e (let q : SidesOf C (pattern_at C 0) a b c = rw e at p in record { kept = kept-one q.its_cost; sides = q })
+  pub sides-one : {a b c : ℕ} → SidesOf C (pattern_at C 0) a b c → KeptSides C 1 0 a b c
+  sides-one p = record { kept = kept-one p.its_cost; sides = p }
 
   -- a turn: pattern n is taken, or passed
   pub sides-new :
-      {n at a b c a' b' c' : ℕ} → SidesSoFar C n at a b c → SidesOf C (pattern_at C n) a' b' c' → c' < c → KeptSides C (n + 1) n a' b' c'
-  sides-new {c' = c'} s p l =
-      ⊎_elim (λ f. sides-one f.0 p) (λ k. record { kept = kept_new c' k.kept p.its_cost l refl refl; sides = p }) s
+      {n at a b c a' b' c' : ℕ} → KeptSides C n at a b c → SidesOf C (pattern_at C n) a' b' c' → c' < c → KeptSides C (n + 1) n a' b' c'
+  sides-new {c' = c'} k p l = record { kept = kept_new c' k.kept p.its_cost l refl refl; sides = p }
 
   pub sides-old :
-      {n at a b c a' b' c' : ℕ} → SidesSoFar C n at a b c → SidesOf C (pattern_at C n) a' b' c' → c' < above_all → c ≤ c' → KeptSides C (n + 1) at a b c
-  sides-old {c' = c'} s p few l =
-      ⊎_elim (λ f. absurd (omega (arith, f.1))) (λ k. record { kept = kept-old c' k.kept p.its_cost l refl refl; sides = k.sides }) s
+      {n at a b c a' b' c' : ℕ} → KeptSides C n at a b c → SidesOf C (pattern_at C n) a' b' c' → c ≤ c' → KeptSides C (n + 1) at a b c
+  sides-old {c' = c'} k p l = record { kept = kept-old c' k.kept p.its_cost l refl refl; sides = k.sides }
 
-  pub sides_all : {m at a b c t : ℕ} → SidesSoFar C m at a b c → t ≡ tried_to C m → m ≡ last_pattern C + 1 → PickedOf C at a b c t
+  pub sides_all : {m at a b c t : ℕ} → KeptSides C m at a b c → t ≡ tried_to C m → m ≡ last_pattern C + 1 → PickedOf C at a b c t
   unfolding best_pattern tried
-  sides_all s q e =
-      ⊎_elim (λ f. absurd (omega (arith, f.0)))
-      (λ k. record { best = kept-all (last_pattern C) k.kept e; sides = k.sides; counted = q ∙ ap (tried_to C) e })
-      s
+  sides_all k q e = record { best = kept-all (last_pattern C) k.kept e; sides = k.sides; counted = q ∙ ap (tried_to C) e }

@@ -1,11 +1,11 @@
 -- Sums of samples by their marks: one sample more, eight at a time, and word by word.
-use Prim.Native.Nat.{ℕ, ◌+◌, ◌-◌, ◌*◌, ◌/◌, ◌%◌, ◌^◌, ◌≤◌, ◌<◌}
+use Prim.Native.Nat.{ℕ, zero, suc, ◌+◌, ◌-◌, ◌*◌, ◌/◌, ◌%◌, ◌^◌, ◌≤◌, ◌<◌}
 use mathlib.Core.Path.{◌≡◌, refl, sym, ap, ap₂, ◌∙◌, subst}
 use mathlib.Core.Bool.{Bool, cond}
-use mathlib.Core.List.{List}
-use mathlib.Core.Logic.{inl, inr, ⊎_elim}
+use mathlib.Core.List.{List, []}
+use mathlib.Core.Logic.{inl}
 use native.Mathlib.Numerals.{add-one}
-use native.Mathlib.Nat.{pow-suc, one-mul, mod-le, lt_of_lt_of_le, lt_of_le_of_lt}
+use native.Mathlib.Nat.{div-one, pow-suc, one-mul, mod-le, lt_of_lt_of_le, lt_of_le_of_lt}
 use native.Mathlib.Decide.{dec_lt, ℕ_discrete}
 use native.Mathlib.Omega.{arith}
 use lib.Dec.{eqb}
@@ -13,6 +13,7 @@ use lib.ListN.{length, get_or, set, replicate, length-set, get_or-replicate}
 use lib.Pow.{pow_mono}
 use lib.Seq.{get_or-set_same, get_or-set_other}
 use borrow.Author.Tests.{eq-eqb, ne_eqb, eqb-true, lt-ltb, ltb-true}
+use Rattle.std.specs.Int.{w64, to_le_bytes}
 use Rattle.arith.specs.Bits.{test_bit}
 use Rattle.arith.specs.Sum.{sum_to}
 use Rattle.arith.proofs.Bools.{both_of}
@@ -20,7 +21,7 @@ use Rattle.arith.proofs.BitLaws.{shifted_one, low_bit, high_bit, field-bit, rest
 use Rattle.arith.proofs.Sums.{sum-ext, sum-add, sum-le, term-le, sum-none, sum-append, sum_rows, sum_one}
 use Rattle.pattern.specs.Words.{joined, four_words}
 use Rattle.pattern.proofs.WordLaws.{first_word, four_below}
-use Rattle.choice.specs.Sums.{marked_sum, EightSums, Followed, bytes_sum}
+use Rattle.choice.specs.Sums.{marked_sum, sum_at, EightSums, Extended, bytes_sum}
 
 -- ---- sums over the bits of a number
 
@@ -88,32 +89,6 @@ module _ (f : ℕ → ℕ) where
 
 -- ---- eight samples at a time
 
-module _ (before : List ℕ) (from width x : ℕ) where
-  pub followed-none : Followed before before from width x 0
-  followed-none = record { as_long = refl; added = λ i l. absurd (omega arith); others = λ a _. refl }
-
-  pub followed-more :
-      (after : List ℕ) (m y : ℕ) → Followed before after from width x m → m < width → from + width + m < length after
-      → y ≡ get_or after (from + m) 0 + x → Followed before (set after (from + width + m) y) from width x (m + 1)
-  followed-more after m y q l room e =
-      record {
-        as_long = length-set after (from + width + m) y ∙ q.as_long;
-        added = λ i h. go i (ℕ_discrete i m) h;
-        others = λ a h.
-            get_or-set_other after (from + width + m) a y 0 (λ d. ⊎_elim (λ g. omega (arith, d, g)) (λ g. omega (arith, d, g)) h)
-            ∙ q.others a (⊎_elim (λ g. inl g) (λ g. inr (omega arith)) h);
-      }
-    where
-      go : (i : ℕ) → Dec (i ≡ m) → i < m + 1 → get_or (set after (from + width + m) y) (from + width + i) 0 ≡ get_or before (from + i) 0 + x
-      go i (yes d) h =
-          rw d (get_or-set_same after (from + width + m) y 0 room ∙ e ∙ ap (λ (z : ℕ). z + x) (q.others (from + m) (inl (omega arith))))
-      go i (no d) h =
-          get_or-set_other after (from + width + m) (from + width + i) y 0 (λ g. d (omega arith)) ∙ q.added i (omega arith)
-
-  pub followed-end : (after : List ℕ) {m y : ℕ} → m ≡ width → x ≡ y → Followed before after from width x m → Followed before after from width y width
-  followed-end after {m} {y} e d q =
-      subst (λ (z : ℕ). Followed before after from width y z) e (subst (λ (z : ℕ). Followed before after from width z m) d q)
-
 -- a width, as the code shifts it
 pub width_is : (k : ℕ) → 1 * 2 ^ (k % 8) % 2 ^ 64 ≡ 2 ^ (k % 8)
 width_is k = shifted_one (k % 8) (omega arith)
@@ -122,22 +97,27 @@ module _ (samples : List ℕ) where
   abbrev eight : ℕ → ℕ → ℕ
   eight r j = get_or samples (8 * r + j) 0
 
-  pub eight-none : EightSums 0 samples (replicate 8192 0)
+  pub eight-none : EightSums 0 samples (replicate 32 (replicate 256 0))
   eight-none = (
     refl,
     λ r b hr hb h.
         let z : 0 - 8 * r ≡ 0 = omega arith in
         let g : b < 2 ^ 0 = rw z at h in
         let e : b ≡ 0 = omega (arith, g) in
-        get_or-replicate 8192 (256 * r + b) 0 0 (omega arith) ∙ sym (ap (λ (w : ℕ). marked_sum (eight r) w 8) e ∙ marked-zero (eight r) 8),
+        ap (λ (l : List ℕ). get_or l b 0) (get_or-replicate 32 r (replicate 256 0) [] hr)
+        ∙ get_or-replicate 256 b 0 0 hb
+        ∙ sym (ap (λ (w : ℕ). marked_sum (eight r) w 8) e ∙ marked-zero (eight r) 8),
   )
 
-  module _ (k : ℕ) (l : List ℕ) (few : k < 256) (q : EightSums k samples l) {width : ℕ} (ew : width ≡ 2 ^ (k % 8)) where
+  module _ (k : ℕ) (l : List (List ℕ)) (few : k < 256) (q : EightSums k samples l) {width : ℕ} (ew : width ≡ 2 ^ (k % 8)) where
     abbrev r₀ : ℕ
     r₀ = k / 8
 
     abbrev j₀ : ℕ
     j₀ = k % 8
+
+    abbrev row : List ℕ
+    row = get_or l r₀ []
 
     own : k - 8 * r₀ ≡ j₀
     own = omega arith
@@ -146,61 +126,77 @@ module _ (samples : List ℕ) where
     narrow = pow_mono {i = j₀} {j = 7} (omega arith)
 
     -- there is room for as many more, and the sums so far are small
-    pub eight-room : 256 * r₀ + 2 * width ≤ length l
-    eight-room = omega (arith, narrow, ew, q.0)
+    pub eight-room : 2 * width ≤ 256
+    eight-room = omega (arith, narrow, ew)
 
-    pub eight-small : ((i : ℕ) → get_or samples i 0 < 256) → (i : ℕ) → i < width → get_or l (256 * r₀ + i) 0 ≤ 2040
+    pub eight-small : ((i : ℕ) → get_or samples i 0 < 256) → (i : ℕ) → i < width → get_or row i 0 ≤ 2040
     eight-small bytes i h =
         let g : i < 2 ^ j₀ = rw ew at h in
         rw (q.1 r₀ i (omega arith) (omega (arith, narrow)) (rw own g)) (marked-le (eight r₀) i 255 8 (λ j. let b = bytes (8 * r₀ + j) in omega (arith, b)))
 
-    module _ (l' : List ℕ) (g : Followed l l' (256 * r₀) width (get_or samples k 0) width) where
-      f : Followed l l' (256 * r₀) (2 ^ j₀) (get_or samples k 0) (2 ^ j₀)
-      f = subst (λ (z : ℕ). Followed l l' (256 * r₀) z (get_or samples k 0) z) ew g
+    module _ (after : List ℕ) (g : Extended row after width (get_or samples k 0)) where
+      f : Extended row after (2 ^ j₀) (get_or samples k 0)
+      f = subst (λ (z : ℕ). Extended row after z (get_or samples k 0)) ew g
 
       -- the sums of other samples stay
-      other-sums : (r b : ℕ) → r < 32 → b < 256 → (r ≡ r₀ → ⊥) → b < 2 ^ (k + 1 - 8 * r) → get_or l' (256 * r + b) 0 ≡ marked_sum (eight r) b 8
+      other-sums : (r b : ℕ) → r < 32 → b < 256 → (r ≡ r₀ → ⊥) → b < 2 ^ (k + 1 - 8 * r) → sum_at l r b ≡ marked_sum (eight r) b 8
       other-sums r b hr hb n h = go (dec_lt r r₀)
         where
-          go : Dec (r < r₀) → get_or l' (256 * r + b) 0 ≡ marked_sum (eight r) b 8
-          go (yes g) = f.others (256 * r + b) (inl (omega arith)) ∙ q.1 r b hr hb (lt_of_lt_of_le hb (pow_mono {i = 8} {j = k - 8 * r} (omega arith)))
+          go : Dec (r < r₀) → sum_at l r b ≡ marked_sum (eight r) b 8
+          go (yes g) = q.1 r b hr hb (lt_of_lt_of_le hb (pow_mono {i = 8} {j = k - 8 * r} (omega arith)))
           go (no g) =
               let above : r₀ < r = omega arith in
               let e : k + 1 - 8 * r ≡ k - 8 * r = omega arith in
-              f.others (256 * r + b) (inr (omega (arith, narrow))) ∙ q.1 r b hr hb (rw e at h)
+              q.1 r b hr hb (rw e at h)
 
       -- its own: without its mark and with it
-      own-sums : (b : ℕ) → b < 2 ^ (j₀ + 1) → get_or l' (256 * r₀ + b) 0 ≡ marked_sum (eight r₀) b 8
+      own-sums : (b : ℕ) → b < 2 ^ (j₀ + 1) → get_or after b 0 ≡ marked_sum (eight r₀) b 8
       own-sums b h = go (dec_lt b (2 ^ j₀))
         where
-          go : Dec (b < 2 ^ j₀) → get_or l' (256 * r₀ + b) 0 ≡ marked_sum (eight r₀) b 8
-          go (yes g) = f.others (256 * r₀ + b) (inl (omega arith)) ∙ q.1 r₀ b (omega arith) (omega (arith, narrow)) (rw own g)
+          go : Dec (b < 2 ^ j₀) → get_or after b 0 ≡ marked_sum (eight r₀) b 8
+          go (yes g) = f.others b (inl g) ∙ q.1 r₀ b (omega arith) (omega (arith, narrow)) (rw own g)
           go (no g) =
               let c = b - 2 ^ j₀ in
               let small : c < 2 ^ j₀ = omega (arith, pow-suc 2 j₀, g, ap (λ (x : ℕ). 2 ^ x) (add-one j₀)) in
               let e : b ≡ 2 ^ j₀ + c = omega arith in
-              let p : 256 * r₀ + b ≡ 256 * r₀ + 2 ^ j₀ + c = omega arith in
-              ap (λ (a : ℕ). get_or l' a 0) p
+              ap (λ (a : ℕ). get_or after a 0) e
               ∙ f.added c small
               ∙ ap₂ ◌+◌ (q.1 r₀ c (omega arith) (omega (arith, narrow, small)) (rw own small)) (ap (λ (i : ℕ). get_or samples i 0) (let d : k ≡ 8 * r₀ + j₀ = omega arith in d))
               ∙ sym (ap (λ (w : ℕ). marked_sum (eight r₀) w 8) e ∙ marked-top (eight r₀) j₀ c 8 small (omega arith))
 
-      pub eight-more : EightSums (k + 1) samples l'
-      eight-more = (f.as_long ∙ q.0, λ r b hr hb h. go r b hr hb h (ℕ_discrete r r₀))
+      pub eight-more : EightSums (k + 1) samples (set l r₀ after)
+      eight-more = (length-set l r₀ after ∙ q.0, λ r b hr hb h. go r b hr hb h (ℕ_discrete r r₀))
         where
-          go : (r b : ℕ) → r < 32 → b < 256 → b < 2 ^ (k + 1 - 8 * r) → Dec (r ≡ r₀) → get_or l' (256 * r + b) 0 ≡ marked_sum (eight r) b 8
-          go r b hr hb h (yes e) = let d : k + 1 - 8 * r₀ ≡ j₀ + 1 = omega arith in rw e (own-sums b (rw (e, d) at h))
-          go r b hr hb h (no n) = other-sums r b hr hb n h
+          go : (r b : ℕ) → r < 32 → b < 256 → b < 2 ^ (k + 1 - 8 * r) → Dec (r ≡ r₀) → sum_at (set l r₀ after) r b ≡ marked_sum (eight r) b 8
+          go r b hr hb h (yes e) =
+              let d : k + 1 - 8 * r₀ ≡ j₀ + 1 = omega arith in
+              rw e
+              (ap (λ (x : List ℕ). get_or x b 0) (get_or-set_same l r₀ after [] (omega (arith, q.0)))
+              ∙ own-sums b (rw (e, d) at h))
+          go r b hr hb h (no n) =
+              ap (λ (x : List ℕ). get_or x b 0) (get_or-set_other l r₀ r after [] n) ∙ other-sums r b hr hb n h
 
 -- ---- word by word
 
+-- the bytes of a word, lowest first
+pub byte_is : (w k : ℕ) → k < 8 → get_or (to_le_bytes w64 w) k 0 ≡ w / 2 ^ (8 * k) % 256
+byte_is w zero h = ap (λ (x : ℕ). x % 256) (sym (div-one w))
+byte_is w (suc zero) h = refl
+byte_is w (suc (suc zero)) h = refl
+byte_is w (suc (suc (suc zero))) h = refl
+byte_is w (suc (suc (suc (suc zero)))) h = refl
+byte_is w (suc (suc (suc (suc (suc zero))))) h = refl
+byte_is w (suc (suc (suc (suc (suc (suc zero)))))) h = refl
+byte_is w (suc (suc (suc (suc (suc (suc (suc zero))))))) h = refl
+byte_is w (suc (suc (suc (suc (suc (suc (suc (suc k)))))))) h = absurd (omega arith)
+
 -- byte by byte, as a loop adds them up
-pub bytes-none : (sums : List ℕ) (i w : ℕ) → 0 ≡ bytes_sum sums i w 0
+pub bytes-none : (sums : List (List ℕ)) (i w : ℕ) → 0 ≡ bytes_sum sums i w 0
 unfolding sum_to
 bytes-none sums i w = refl
 
 pub bytes-more :
-    (sums : List ℕ) (i w k : ℕ) {sum x : ℕ} → sum ≡ bytes_sum sums i w k → x ≡ get_or sums (256 * (8 * i + k) + w / 2 ^ (8 * k) % 256) 0
+    (sums : List (List ℕ)) (i w k : ℕ) {sum x : ℕ} → sum ≡ bytes_sum sums i w k → x ≡ sum_at sums (8 * i + k) (w / 2 ^ (8 * k) % 256)
     → sum + x ≡ bytes_sum sums i w (k + 1)
 unfolding sum_to
 bytes-more sums i w k e q = ap₂ ◌+◌ e q ∙ ap (bytes_sum sums i w) (sym (add-one k))
@@ -218,7 +214,7 @@ module _ (f : ℕ → ℕ) (w : ℕ) where
       let e : k * 8 + j ≡ 8 * k + j = omega arith in
       ap (λ (b : Bool). cond b (f (k * 8 + j)) 0) (ap (test_bit w) e ∙ sym (field-bit w (8 * k) 8 j h))))
 
-module _ (samples sums : List ℕ) (q : EightSums (length samples) samples sums) where
+module _ (samples : List ℕ) (sums : List (List ℕ)) (q : EightSums (length samples) samples sums) where
   abbrev s : ℕ → ℕ
   s k = get_or samples k 0
 

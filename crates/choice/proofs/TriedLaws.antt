@@ -55,13 +55,17 @@ module _ (C : Case) where
       q ∙ ap (λ (R : ℕ). side false R + side true R) (reach-again C.reach (length C.table - 1) k) ∙ ap (tried_at C) e
 
   -- before the first pattern, and one more
-  pub tried-none : 0 ≡ tried_to C 0
+  tried-none : 0 ≡ tried_to C 0
   unfolding sum_to
   tried-none = refl
 
   pub tried-more : (k : ℕ) {a b : ℕ} → a ≡ tried_to C k → b ≡ tried_at C (pattern_at C k) → a + b ≡ tried_to C (k + 1)
   unfolding sum_to
   tried-more k e q = rw (add-one k, e, q)
+
+  -- the first pattern alone
+  pub tried-first : {b : ℕ} → b ≡ tried_at C (pattern_at C 0) → b ≡ tried_to C 1
+  tried-first {b = b} e = (let z : b ≡ 0 + b = omega arith in z) ∙ tried-more 0 tried-none e
 
   module _ (near : C.reach ≤ 255) where
     side-few : (w : ℕ) (m : Bool) → tried_for C w m ≤ 511

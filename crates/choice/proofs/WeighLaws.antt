@@ -10,6 +10,7 @@ use lib.Count.{ones}
 use lib.ListN.{length, get_or}
 use Rattle.arith.specs.Distance.{clamped}
 use Rattle.depth_table.specs.Table.{index_of}
+use Rattle.depth_table.specs.declared.DepthIndex.{DepthIndex}
 use Rattle.depth_table.proofs.TableLaws.{table-counts}
 use Rattle.depth_table.proofs.IndexLaws.{index_below}
 use Rattle.prediction.specs.Sides.{side_depth}
@@ -28,7 +29,7 @@ use Rattle.choice.proofs.TallyLaws.{count-le}
 use Rattle.choice.proofs.TrialLaws.{trial-of-same}
 use Rattle.choice.specs.Cases.{side_case, depth_in}
 use Rattle.choice.specs.Search.{trial_cost}
-use Rattle.choice.specs.Picked.{block_case, Weighable, Prepared}
+use Rattle.choice.specs.Picked.{block_case, Weighable, index_at, Prepared}
 use Rattle.choice.proofs.OffsetLaws.{reach-same}
 use Rattle.choice.proofs.CaseLaws.{depth-case}
 
@@ -40,7 +41,7 @@ module _ (n w : ℕ) (s o t : List ℕ) (R : ℕ) (h : Weighable n w s o t R) wh
   pub reach-used : R ≡ reach_in_use (block_case n s o t R)
   reach-used = reach-same R (length t) h.near
 
-  module _ (below sums indices : List ℕ) (q : Prepared n s o t below sums indices) (bytes : (k : ℕ) → get_or o k 0 < 256) where
+  module _ (below sums : List (List ℕ)) (indices : List DepthIndex) (q : Prepared n s o t below sums indices) (bytes : (k : ℕ) → get_or o k 0 < 256) where
     -- the word marks samples of the block only
     pub word_small : w < 2 ^ length o
     word_small = rw h.square (sides-accepted n w s h.sides).inside
@@ -68,7 +69,7 @@ module _ (n w : ℕ) (s o t : List ℕ) (R : ℕ) (h : Weighable n w s o t R) wh
 
     module _ (m : Bool) {j part : ℕ} (ej : j ≡ side_case n w m) (hj : j < 8) (ep : part ≡ cond m w (bit_xor (layer_at below 256) w)) where
       abbrev i : ℕ
-      i = get_or indices j 0
+      i = index_at indices j
 
       index_is : i ≡ index_of t (side_depth n w s m)
       index_is = q.index_at j hj ∙ ap (λ (x : ℕ). index_of t (depth_in n s x)) ej ∙ ap (index_of t) (sym (depth-case n w s m (sides-accepted n w s h.sides).size))

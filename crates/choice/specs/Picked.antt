@@ -1,6 +1,7 @@
 -- What the search answers step by step: the best offsets of a pattern, and the best pattern.
 use Rattle.std.specs.Prelude.{ℕ, ◌*◌, ◌<◌, ◌≡◌, true, false, List, [], length, get_or}
 use Rattle.depth_table.specs.Table.{table_ok, index_of}
+use Rattle.depth_table.specs.declared.DepthIndex.{DepthIndex}
 use Rattle.choice.specs.Layers.{Layered}
 use Rattle.prediction.specs.SideAnswer.{sides_refusal}
 use Rattle.choice.specs.Case.{Case, case_of}
@@ -18,12 +19,16 @@ pub record Weighable (n w : ℕ) (neighbours original table : List ℕ) (reach :
   pub sound : table_ok table ≡ true
   pub near : reach < length table
 
+-- the index at a place
+abbrev pub index_at : List DepthIndex → ℕ → ℕ
+index_at indices k = (get_or indices k (record { 0 = 0 })).0
+
 -- the index of the depth in each of the first m cases
-abbrev pub CaseIndices : ℕ → ℕ → List ℕ → List ℕ → List ℕ → Type 0
-CaseIndices m n neighbours table indices = (k : ℕ) → k < m → get_or indices k 0 ≡ index_of table (depth_in n neighbours k)
+abbrev pub CaseIndices : ℕ → ℕ → List ℕ → List ℕ → List DepthIndex → Type 0
+CaseIndices m n neighbours table indices = (k : ℕ) → k < m → index_at indices k ≡ index_of table (depth_in n neighbours k)
 
 -- what is worked out once for a block: the layers of its samples with their sums, and the index of the depth in each of the eight cases
-pub record Prepared (n : ℕ) (neighbours original table below sums indices : List ℕ) : Type 0 where
+pub record Prepared (n : ℕ) (neighbours original table : List ℕ) (below sums : List (List ℕ)) (indices : List DepthIndex) : Type 0 where
   pub layers : Layered original below sums
   pub index_at : CaseIndices 8 n neighbours table indices
 

@@ -1,7 +1,7 @@
 -- Document 01, "Choice", as a function: the cost of a record is what partition 0 costs at off0 and what partition 1 costs at off1, so
 -- each offset is chosen for itself, and then the pattern. Document 02, Asks 3 and 4: how many offsets are tried, of those in the reach in
 -- use.
-use Rattle.std.specs.Prelude.{ℕ, ◌+◌, ◌-◌, ◌*◌, ◌≡◌, Bool, true, false, cond, ltb, get_or}
+use Rattle.std.specs.Prelude.{ℕ, ◌+◌, ◌-◌, ◌*◌, ◌≡◌, Bool, true, false, cond, List, Option, Some, None, ltb, get_or}
 use Rattle.arith.specs.Least.{least_to}
 use Rattle.arith.specs.Sum.{sum_to}
 use Rattle.pattern.specs.Contour.{contour_of}
@@ -34,6 +34,10 @@ best_cost C w = trial_cost C w false (best_trial C w false) + trial_cost C w tru
 -- how many offsets are tried for both partitions of a pattern
 unfoldable pub tried_at : Case → ℕ → ℕ
 tried_at C w = tried_for C w false + tried_for C w true
+
+-- the contour of the texture, where texture is lent
+abbrev pub contour_lent : ℕ → List ℕ → Option ℕ
+contour_lent n texture = cond (textured texture) (Some (contour_of n texture)) None
 
 -- the patterns in order: the entries below the count, and past them the contour, which has the number of the count
 abbrev pub pattern_at : Case → ℕ → ℕ

@@ -23,11 +23,11 @@ pub record BestLevel (F : ℕ → ℕ) (lo hi i j : ℕ) : Type 0 where
   pub under : j < i → (k : ℕ) → j < k → k ≤ hi → F j < F k
 
 -- twice the samples of the word that are below the value at index j, plus 0 or 1
-abbrev pub twice : List ℕ → ℕ → List ℕ → ℕ → ℕ → ℕ
+abbrev pub twice : List (List ℕ) → ℕ → List ℕ → ℕ → ℕ → ℕ
 twice below word table plus j = 2 * ones (bit_and word (layer_at below (get_or table j 0 + plus)))
 
 -- r is one of from .. to - 1; it is the first or twice is below the limit; the next is `to` or twice is not
-pub record Turn (below : List ℕ) (word limit : ℕ) (table : List ℕ) (plus from to r : ℕ) : Type 0 where
+pub record Turn (below : List (List ℕ)) (word limit : ℕ) (table : List ℕ) (plus from to r : ℕ) : Type 0 where
   pub low : from ≤ r
   pub high : r < to
   pub falls : (r ≡ from) ⊎ (twice below word table plus r < limit)
@@ -52,14 +52,14 @@ abbrev pub level_cost : List ℕ → ℕ → List ℕ → ℕ → ℕ
 level_cost samples word table j = side_cost (length samples) samples word true (get_or table j 0)
 
 -- the better of the level at the turn and the next one, upward and downward
-pub record UpTried (samples below : List ℕ) (word size : ℕ) (table : List ℕ) (i to number cost : ℕ) : Type 0 where
+pub record UpTried (samples : List ℕ) (below : List (List ℕ)) (word size : ℕ) (table : List ℕ) (i to number cost : ℕ) : Type 0 where
   pub l : ℕ
   pub turned : Turn below word size table 1 i to l
   pub better :
       Better (2 * (l - i)) (side_cost (length samples) samples word true (get_or table l 0)) (2 * (l + 1 - i))
       (side_cost (length samples) samples word true (get_or table (l + 1) 0)) number cost
 
-pub record DownTried (samples below : List ℕ) (word size : ℕ) (table : List ℕ) (i end number cost : ℕ) : Type 0 where
+pub record DownTried (samples : List ℕ) (below : List (List ℕ)) (word size : ℕ) (table : List ℕ) (i end number cost : ℕ) : Type 0 where
   pub l : ℕ
   pub turned : Turn below word (size + 1) table 0 end i l
   pub better :

@@ -16,7 +16,7 @@ use record::Record;
 pub use refusal::check_choice;
 
 // What a record is chosen from: the size, the wedgelet list, the neighbours, the original samples, the depth table, the reach, and the
-// texture; an empty texture is none.
+// texture. An empty texture is none, as it comes from C, whose slices have a length and no `Option`.
 #[derive(Clone, Copy)]
 pub struct Input<'a> {
     pub n: usize,

@@ -8,27 +8,23 @@ ghost use Rattle.choice.specs.Cost.{side_cost};
 ghost use Rattle.choice.specs.Sums.{marked_sum};
 ghost use Rattle.choice.specs.Layers.{layer_at, Layered, Parted};
 
-use crate::layers::LAYER_WORDS;
-use crate::sums::{SUMS, word_sum};
+use crate::layers::LayerRows;
+use crate::sums::{SumRows, word_sum};
 use pattern::Pattern;
 
 // A block's samples, their layers and their sums.
 #[derive(Clone, Copy)]
 pub(crate) struct Layers<'a> {
     pub samples: &'a [u8],
-    pub below: &'a [u64; LAYER_WORDS],
-    pub sums: &'a [u16; SUMS],
+    pub below: &'a LayerRows,
+    pub sums: &'a SumRows,
     ghost bytes: { (k : ℕ) → get_or samples.now k 0 < 256 },
     ghost layered: { Layered samples.now below.now sums.now },
 }
 
 impl<'a> Layers<'a> {
     // A block's samples with their layers and sums.
-    pub(crate) fn new(
-        samples: &'a [u8],
-        below: &'a [u64; LAYER_WORDS],
-        sums: &'a [u16; SUMS],
-    ) -> Layers<'a>
+    pub(crate) fn new(samples: &'a [u8], below: &'a LayerRows, sums: &'a SumRows) -> Layers<'a>
         requires { Layered samples.now below.now sums.now }
         ensures { result.samples.now ≡ samples.now }
     {
@@ -39,7 +35,8 @@ impl<'a> Layers<'a> {
         }
     }
 
-    // How many samples of the block a pattern marks.
+    // How many samples of the block a pattern marks. That it marks none past the block's last is asked here, by `sum` and by `part`, and
+    // no field says it: a pattern has room for 256 marks whatever the size, and how many samples the block has is known only with them.
     pub(crate) fn count(&self, p: Pattern) -> u32
         requires { pattern_number p < 2 ^ length self.now.samples.now }
         ensures { (result ≡ ones (pattern_number p)) × (result ≤ greatest_samples) }
@@ -47,7 +44,7 @@ impl<'a> Layers<'a> {
         if 64 < self.samples.len() {
             p.marks()
         } else {
-            p.w0.count_ones()
+            p.words[0].count_ones()
         }
     }
 
@@ -56,26 +53,22 @@ impl<'a> Layers<'a> {
         requires { pattern_number p < 2 ^ length self.now.samples.now }
         ensures { let s = self.now.samples.now in result ≡ marked_sum (λ k. get_or s k 0) (pattern_number p) (length s) }
     {
-        let first = word_sum(self.sums, 0, p.w0);
+        let first = word_sum(self.sums, 0, p.words[0]);
         if 64 < self.samples.len() {
-            let second = word_sum(self.sums, 1, p.w1);
-            let third = word_sum(self.sums, 2, p.w2);
-            return word_sum(self.sums, 3, p.w3) + third + second + first;
+            let second = word_sum(self.sums, 1, p.words[1]);
+            let third = word_sum(self.sums, 2, p.words[2]);
+            return word_sum(self.sums, 3, p.words[3]) + third + second + first;
         }
         first
     }
 
-    // The layer of the samples below v.
+    // The layer of the samples below v, a number from 0 to 256: one more than a `u8` holds, and of a `usize` no type says it more plainly.
     fn below_at(&self, v: usize) -> Pattern
         requires { v < 257 }
         ensures { pattern_number result ≡ layer_at self.now.below.now v }
     {
-        let at = 4 * v;
         Pattern {
-            w0: self.below[at],
-            w1: self.below[at + 1],
-            w2: self.below[at + 2],
-            w3: self.below[at + 3],
+            words: self.below[v],
         }
     }
 
@@ -84,26 +77,14 @@ impl<'a> Layers<'a> {
         requires { v < 257 }
         ensures { pattern_number result ≡ bit_and (pattern_number p) (layer_at self.now.below.now v) }
     {
-        let layer = self.below_at(v);
-        Pattern {
-            w0: p.w0 & layer.w0,
-            w1: p.w1 & layer.w1,
-            w2: p.w2 & layer.w2,
-            w3: p.w3 & layer.w3,
-        }
+        p & self.below_at(v)
     }
 
     // The samples of the block that a pattern does not mark.
     pub(crate) fn others(&self, p: Pattern) -> Pattern
         ensures { pattern_number result ≡ bit_xor (layer_at self.now.below.now 256) (pattern_number p) }
     {
-        let all = self.below_at(256);
-        Pattern {
-            w0: all.w0 ^ p.w0,
-            w1: all.w1 ^ p.w1,
-            w2: all.w2 ^ p.w2,
-            w3: all.w3 ^ p.w3,
-        }
+        self.below_at(256) ^ p
     }
 
     // The part of the samples that a pattern marks, with so many marks.

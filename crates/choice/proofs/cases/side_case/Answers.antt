@@ -7,6 +7,6 @@ pub returns : goal.returns
 returns c =
     let a = c.args in
     let e =
-    case-by a.n (pattern_number a.p) a.m c.mark_at-origin.ensures c.mark_at.ensures c.mark_at-2.ensures
+    case-by a.size.n (pattern_number a.p) a.m c.mark_at-origin.ensures c.mark_at.ensures c.mark_at-2.ensures
     c.from-other.ensures c.from-v.ensures c.from-h.ensures in
-    (e, rw e (case_lt a.n (pattern_number a.p) a.m))
+    (e, rw e (case_lt a.size.n (pattern_number a.p) a.m))

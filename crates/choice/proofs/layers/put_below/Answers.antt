@@ -1,27 +1,22 @@
--- `put_below` meets its contract: the words before the next are there.
+-- `put_below` meets its contract: after v values the layers from 0 to v are there.
 use native.Mathlib.Omega.{arith}
-use mathlib.Core.Path.{refl}
-use lib.ListN.{replicate, length-set, get_or-replicate}
-use Rattle.choice.proofs.BuildLaws.{below-first, below-fits, below_more, below-joined}
+use borrow.Author.Rules.{rules}
+use lib.ListN.{length-set}
+use Rattle.choice.proofs.BuildLaws.{below-first, below_more, below-joined}
 use Rattle.choice.proofs.layers.put_below.Goals as goal
 
-pub loop-at-init : goal.loop-at-init
-loop-at-init c = (omega arith, refl, below-first c.args.samples.now (replicate 1028 0) (λ a h. get_or-replicate 1028 a 0 0 (omega arith)))
+pub loop-v-init : goal.loop-v-init
+loop-v-init c = (search rules, c.equal_layers.ensures, below-first c.args.samples.now c.args.layers.now (search rules))
 
-pub overflow_add-layers : goal.overflow_add-layers
-overflow_add-layers c =
-    let l = c.loop-at in
-    record { fits = below-fits c.args.samples.now l.at _ _ l.layers l.invariant.2 refl (c.equal_layers-equal.ensures.1 l.at (omega arith)) }
-
-pub loop-at-preserved : goal.loop-at-preserved
-loop-at-preserved c =
-    let l = c.loop-at in (
-      omega arith,
-      simp length-set l.invariant.1,
-      below_more c.args.samples.now l.at _ _ l.layers l.invariant.2 refl (c.equal_layers-equal.ensures.1 l.at (omega arith)) (omega arith),
+pub loop-v-preserved : goal.loop-v-preserved
+loop-v-preserved c =
+    let l = c.loop-v in (
+      simp length-set l.invariant.0,
+      l.invariant.1,
+      below_more c.args.samples.now l.v-counter l.layers c.equal_layers.result _ l.invariant.2 l.invariant.1 (omega arith) (omega arith) (λ i h. search rules),
     )
 
 pub returns : goal.returns
 returns c =
-    let l = c.loop-at in
-    below-joined c.args.samples.now c.requires l.layers (λ a h. l.invariant.2 a (omega arith))
+    let l = c.loop-v in
+    below-joined c.args.samples.now c.requires l.layers (λ v i h. l.invariant.2 v i (omega arith))

@@ -1,12 +1,10 @@
--- `put_below` meets its contract: the words before the next are there.
-use Prim.Native.Nat.{◌+◌, ◌-◌, ◌≤◌}
+-- `put_below` meets its contract: after v values the layers from 0 to v are there.
+use Prim.Native.Nat.{◌+◌}
 use mathlib.Core.Path.{◌≡◌}
 use lib.ListN.{length}
-use Rattle.choice.specs.Layers.{BelowWords}
+use Rattle.choice.specs.Layers.{EqualWords, BelowWords}
 use Rattle.choice.proofs.layers.put_below.Given as goal
 
-abbrev pub invariant-loop-at : goal.invariant-loop-at
-invariant-loop-at l = (l.at ≤ 1024) × (length l.layers ≡ 1028) × BelowWords (l.at + 4) l.samples l.layers
-
-abbrev pub decreases-loop-at : goal.decreases-loop-at
-decreases-loop-at l = 1024 - l.at
+abbrev pub invariant-loop-v : goal.invariant-loop-v
+invariant-loop-v l =
+    (length l.layers ≡ 257) × EqualWords (length l.samples) l.samples l.equal-items × BelowWords (l.v-counter + 1) l.samples l.layers

@@ -3,10 +3,12 @@ use Prim.Native.Nat.{◌+◌, ◌≤◌}
 use mathlib.Core.Path.{◌≡◌}
 use Rattle.choice.specs.Case.{case_in}
 use Rattle.choice.specs.Search.{last_pattern, tried_to}
-use Rattle.choice.proofs.SearchLaws.{SidesSoFar}
+use Rattle.choice.proofs.SearchLaws.{KeptSides}
 use Rattle.choice.proofs.search.best_pattern.Given as goal
 
-abbrev pub invariant-loop-p : goal.invariant-loop-p
-invariant-loop-p l =
+abbrev pub invariant-loop-number : goal.invariant-loop-number
+invariant-loop-number l =
     let C = case_in l.input in
-    (l.p ≤ last_pattern C + 1) × SidesSoFar C l.p l.at l.best.trial0 l.best.trial1 l.best.cost × (l.tried ≡ tried_to C l.p)
+    (l.number ≤ last_pattern C + 1)
+    × KeptSides C l.number l.best.number l.best.trial0 l.best.trial1 l.best.cost
+    × (l.best.tried ≡ tried_to C l.number)

@@ -5,12 +5,12 @@ use Rattle.choice.proofs.SumLaws.{width_is, eight-none, eight-room, eight-small,
 use Rattle.choice.proofs.sums.put_sums.Goals as goal
 
 pub loop-k-init : goal.loop-k-init
-loop-k-init c = (omega arith, eight-none c.args.samples.now)
+loop-k-init c = (omega arith, rw c.requires.1 (eight-none c.args.samples.now))
 
 pub take_sample-requires : goal.take_sample-requires
 take_sample-requires c =
     let l = c.loop-k in
-    let small : l.k < 256 = omega (arith, c.requires) in
+    let small : l.k < 256 = omega (arith, c.requires.0) in
     let s = c.args.samples.now in (
       eight-room s l.k l.sums small l.invariant.1 (width_is l.k),
       eight-small s l.k l.sums small l.invariant.1 (width_is l.k) (λ i. (c.type_inv.samples i).fits),
@@ -19,4 +19,4 @@ take_sample-requires c =
 pub loop-k-preserved : goal.loop-k-preserved
 loop-k-preserved c =
     let l = c.loop-k in
-    (omega arith, eight-more c.args.samples.now l.k l.sums (omega (arith, c.requires)) l.invariant.1 (width_is l.k) _ c.take_sample.ensures)
+    (omega arith, eight-more c.args.samples.now l.k l.sums (omega (arith, c.requires.0)) l.invariant.1 (width_is l.k) _ c.take_sample.ensures)

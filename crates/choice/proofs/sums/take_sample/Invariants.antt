@@ -1,10 +1,11 @@
--- `take_sample` meets its contract: the first i sums are there with the sample added.
-use Prim.Native.Nat.{◌-◌, ◌≤◌}
-use Rattle.choice.specs.Sums.{Followed}
+-- `take_sample` meets its contract: the first of the copied sums have the sample added, and the others are as copied.
+use Prim.Native.Nat.{ℕ, ◌+◌, ◌≤◌, ◌<◌}
+use mathlib.Core.Path.{◌≡◌}
+use lib.ListN.{length, get_or}
 use Rattle.choice.proofs.sums.take_sample.Given as goal
 
-abbrev pub invariant-loop-i : goal.invariant-loop-i
-invariant-loop-i l = (l.i ≤ l.width) × Followed l.initial.sums l.sums l.from l.width l.x l.i
-
-abbrev pub decreases-loop-i : goal.decreases-loop-i
-decreases-loop-i l = l.width - l.i
+abbrev pub invariant-loop-sum : goal.invariant-loop-sum
+invariant-loop-sum l =
+    (length l.sum-items ≡ l.width)
+    × ((i : ℕ) → i < l.sum-index → get_or l.sum-items i 0 ≡ get_or l.fn.sums i 0 + l.x)
+    × ((i : ℕ) → l.sum-index ≤ i → i < l.width → get_or l.sum-items i 0 ≡ get_or l.fn.sums i 0)
