@@ -9,7 +9,7 @@ use borrow.Author.Tests.{lt-ltb}
 use lib.ListN.{length}
 use Rattle.depth_table.specs.Table.{table_ok}
 use Rattle.pattern.proofs.SizeLaws.{one-le-square}
-use Rattle.choice.specs.Case.{Case, case_of}
+use Rattle.choice.specs.Case.{Case}
 use Rattle.choice.specs.Refusal.{choose_refusal}
 use Rattle.record.specs.declared.Record.{Record}
 use Rattle.choice.specs.Record.{LeastRecord, prediction_of}
@@ -23,22 +23,23 @@ use Rattle.sheet_grid.specs.Samples.{cut, written}
 use Rattle.sheet_grid.proofs.NeighbourLaws.{length-neighbours}
 use Rattle.sheet_grid.proofs.SampleLaws.{length_cut}
 use Rattle.record.proofs.MeaningLaws.{sound-record}
-use Rattle.sheet.specs.State.{next_x, next_y, Open, Lengths}
+use Rattle.sheet.specs.State.{area, next_x, next_y, Open, Lengths}
+use Rattle.sheet_grid.proofs.GridLaws.{blocks-few}
 use Rattle.record.specs.Meaning.{record_refusal}
 use Rattle.pattern.specs.Answer.{textured}
 use Rattle.arith.specs.Checks.{Answer, given, refused, lent}
 use Rattle.arith.proofs.CheckLaws.{lent-refused}
 use Rattle.choice.specs.Answer.{choose_answer}
-use Rattle.sheet_grid.specs.Neighbours.{neighbours}
-use Rattle.sheet.specs.Place.{next_texture, draw_refusal, place_refusal_by, place_refusal}
+use Rattle.sheet.specs.Place.{next_case, next_texture, draw_refusal, place_refusal_by, place_refusal}
 use Rattle.sheet.specs.Compose.{Task, compose_case, chosen_next, chosen_block, composed_next, choice_refusal}
 use Rattle.sheet.specs.declared.Sheet.{Sheet}
-use Rattle.sheet.proofs.StateLaws.{Next, lengths-do, open_none}
+use Rattle.sheet.specs.Next.{Next}
+use Rattle.sheet.proofs.StateLaws.{lengths-do, open_none}
 
 -- ---- lengths
 
 -- texture of a block is none or n * n samples, and lent where the sheet's is
-texture-length : (S : Sheet) (t : List ℕ) → (length (next_texture S t) ≡ 0) ⊎ (length (next_texture S t) ≡ S.n * S.n)
+pub texture-length : (S : Sheet) (t : List ℕ) → (length (next_texture S t) ≡ 0) ⊎ (length (next_texture S t) ≡ S.n * S.n)
 texture-length S t = go (textured t) _ (length_cut S.n S.width _ _ t)
   where
     go : (b : Bool) (l : List ℕ) {k : ℕ} → length l ≡ k → (length (cond b l []) ≡ 0) ⊎ (length (cond b l []) ≡ k)
@@ -131,15 +132,17 @@ pub chosen-never :
 unfolding chosen_block
 chosen-never C w x y s e = lent-refused (choose_refusal C) _ s (refused-for C e).1
 
--- the case and the block of the next place, from what the code has in hand
-module _ (S : Sheet) (T : Task) (s : List ℕ) {n w x y : ℕ} (at : Next S n w x y) {list near own light : List ℕ} (listed : list ≡ T.material.list) (bordered : near ≡ neighbours S.n S.width S.placed s) (owned : own ≡ cut S.n S.width (next_x S) (next_y S) T.original) (lit : light ≡ next_texture S T.material.texture) where
-  abbrev its : Case
-  its = case_of n list T.material.count near own T.material.table T.reach light
+-- the original samples of a sheet with a block to place have a part for it
+pub original-next :
+    (S : Sheet) (l : List ℕ) → Open S → length l ≡ area S → next_texture S l ≡ cut S.n S.width (next_x S) (next_y S) l
+original-next S l o e = rw (lt-ltb 0 (length l) (omega (arith, e, o.missing, blocks-few S.n S.width S.height)))
 
-  case-next : its ≡ compose_case S T s
-  case-next = rw (at.size, listed, bordered, owned, lit)
-
-  pub choose-next :
-      {a : Answer (Record × ℕ × ℕ)} {u : List ℕ} → a ≡ choose_answer its → u ≡ chosen_block n w x y its s
-      → (a ≡ choose_answer (compose_case S T s)) × (u ≡ composed_next S T s)
-  choose-next p q = (p ∙ ap choose_answer case-next, rw (case-next, at.size, at.wide, at.column, at.row) at q)
+-- the choice for the next place, from what the code has in hand
+pub choose-next :
+    (S : Sheet) (T : Task) (s : List ℕ) {n w x y : ℕ} → Next S n w x y → length T.original ≡ area S
+    → {C : Case} {a : Answer (Record × ℕ × ℕ)} {u : List ℕ} → C ≡ next_case S T.material (next_texture S T.original) T.reach s
+    → a ≡ choose_answer C → u ≡ chosen_block C.n w x y C s
+    → (a ≡ choose_answer (compose_case S T s)) × (u ≡ composed_next S T s)
+choose-next S T s at whole {C} e p q =
+    let f : C ≡ compose_case S T s = e ∙ ap (λ (l : List ℕ). next_case S T.material l T.reach s) (original-next S T.original at.is_open whole) in
+    (p ∙ ap choose_answer f, rw (at.wide, at.column, at.row) at (rw f at q))

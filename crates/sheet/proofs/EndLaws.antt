@@ -19,7 +19,8 @@ use Rattle.sheet.specs.State.{area, blocks_of, finished, lengths_ok, start_refus
 use Rattle.sheet.specs.Compose.{missing, Task, Leaves, compose_lengths_ok, choice_refusal, Ready, compose_refusal, compose_answer, compose_after, compose_records}
 use Rattle.sheet.specs.declared.Sheet.{Sheet}
 use Rattle.sheet.proofs.StateLaws.{lengths-are, Opened}
-use Rattle.sheet.proofs.RefusalLaws.{number_some, state-refused, table-refused, rest-decides, both-passed}
+use Rattle.pattern.proofs.AnswerLaws.{number-some}
+use Rattle.sheet.proofs.RefusalLaws.{state-refused, table-refused, rest-decides, both-passed}
 
 module _ (S : Sheet) (T : Task) (samples records : ℕ) where
   -- whether the lengths hold
@@ -73,7 +74,7 @@ module _ (S : Sheet) (s : List ℕ) (T : Task) (old : List (List ℤ)) where
   unfolding compose_answer compose_after compose_records
   compose-refused k e =
       let r : ℕ = compose_refusal S (length s) T (length old) in
-      let h : r ≡ 0 → ⊥ = λ z. number_some k (e ∙ z) in
+      let h : r ≡ 0 → ⊥ = λ z. number-some k (e ∙ z) in
       (ap refused e ∙ answer-refused r (finished S, missing S) h, lent-refused r _ s h, lent-refused r _ old h)
 
   -- where the choices decide

@@ -1,9 +1,8 @@
 -- The pattern of a record that is drawn for a case, and what drawing answers and leaves.
-use Prim.Native.Nat.{ℕ, zero, suc, ◌*◌}
+use Prim.Native.Nat.{ℕ, zero, suc, ◌*◌, ◌<◌}
 use mathlib.Core.Bool.{Bool, true, not}
 use mathlib.Core.List.{List}
 use mathlib.Core.Path.{◌≡◌, refl, sym, ap, ◌∙◌}
-use mathlib.Core.Logic.{◌⊎◌, ⊎_elim}
 use native.Mathlib.Omega.{arith}
 use borrow.Author.Tests.{eq-eqb, ne_eqb, lt-ltb, ltb-true}
 use lib.Dec.{eqb, ltb}
@@ -65,11 +64,9 @@ module _ (C : Case) (r : Record) where
   -- the texture is whole where the contour is meant, whatever the table
   pub case-lit :
       (values : ℕ) {m : ℕ} → given contour ≡ record_meaning C.n C.list C.count (textured C.texture) values r
-      → (length C.texture ≡ 0) ⊎ (length C.texture ≡ m) → length C.texture ≡ m
-  case-lit values e =
-      ⊎_elim
-      (λ z. absurd (omega (arith, ltb-true 0 (length C.texture) (contour-lit C.n C.list C.count (textured C.texture) values r e))))
-      (λ z. z)
+      → (0 < length C.texture → length C.texture ≡ m) → length C.texture ≡ m
+  case-lit values e lit =
+      lit (ltb-true 0 (length C.texture) (contour-lit C.n C.list C.count (textured C.texture) values r e))
 
   -- a record that is not refused can be drawn: its pattern marks samples of the block only, and its offsets are allowed
   module _ (none : draw_refusal C r ≡ 0) where

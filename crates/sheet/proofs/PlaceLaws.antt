@@ -17,7 +17,8 @@ use Rattle.sheet.specs.State.{after, lengths_ok, start_refusal}
 use Rattle.sheet.specs.Place.{Material, Fits, placed_samples, material_refusal, place_refusal_by, place_answer_by, place_after_by}
 use Rattle.sheet.specs.declared.Sheet.{Sheet}
 use Rattle.sheet.proofs.StateLaws.{lengths-are}
-use Rattle.sheet.proofs.RefusalLaws.{number_some, state-refused, table-refused, rest-decides, both-passed}
+use Rattle.pattern.proofs.AnswerLaws.{number-some}
+use Rattle.sheet.proofs.RefusalLaws.{state-refused, table-refused, rest-decides, both-passed}
 
 -- placing keeps the number of samples
 pub length-placed : (S : Sheet) (M : Material) (s : List ℕ) (r : Record) → length (placed_samples S M s r) ≡ length s
@@ -49,7 +50,7 @@ module _ (asked : Bool) (S : Sheet) (s : List ℕ) (M : Material) (r : Record) {
       (k : Refusal) → number_of k ≡ start_refusal S l 0
       → (refused (number_of k) ≡ place_answer_by asked S s M r) × (s ≡ place_after_by asked S s M r)
   unfolding place_refusal_by
-  open-refused k e = place-refused asked S s M r (state-refused S _ asked _ measured refl k e) (number_some k)
+  open-refused k e = place-refused asked S s M r (state-refused S _ asked _ measured refl k e) (number-some k)
 
   module _ (going : 0 ≡ start_refusal S l 0) where
     -- the table is refused
@@ -57,7 +58,7 @@ module _ (asked : Bool) (S : Sheet) (s : List ℕ) (M : Material) (r : Record) {
         {k : Refusal} → Err k ≡ checked asked variant.Table
         → (refused (number_of k) ≡ place_answer_by asked S s M r) × (s ≡ place_after_by asked S s M r)
     unfolding place_refusal_by
-    asked-refused {k} e = place-refused asked S s M r (table-refused S _ asked _ measured refl going e) (number_some k)
+    asked-refused {k} e = place-refused asked S s M r (table-refused S _ asked _ measured refl going e) (number-some k)
 
     module _ (sound : Ok tt ≡ checked asked variant.Table) where
       -- past that, the record decides
@@ -84,7 +85,7 @@ module _ (asked : Bool) (S : Sheet) (s : List ℕ) (M : Material) (r : Record) {
             (k : Refusal) → number_of k ≡ material_refusal S M r
             → (refused (number_of k) ≡ place_answer_by asked S s M r) × (u ≡ place_after_by asked S s M r)
         unfolding place_answer_by
-        drawing-refused k e = (refused-by (after 1 S) (e ∙ sym drawing-decides) (number_some k), after-drawing)
+        drawing-refused k e = (refused-by (after 1 S) (e ∙ sym drawing-decides) (number-some k), after-drawing)
 
         pub drawing-done :
             {T : Sheet} → 0 ≡ material_refusal S M r → T ≡ after 1 S

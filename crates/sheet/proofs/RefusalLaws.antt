@@ -2,36 +2,23 @@
 use Prim.Native.Nat.{ℕ}
 use mathlib.Core.Bool.{Bool, true, false}
 use mathlib.Core.Path.{◌≡◌, refl, sym, ◌∙◌}
-use native.Mathlib.Omega.{arith}
-use Rattle.std.specs.Prelude.{Ok, Err}
+use Rattle.std.specs.Prelude.{Result, Ok, Err, IsOk}
 use lib.Dec.{ltb}
 use Rattle.arith.specs.Checks.{unless}
 use Rattle.arith.proofs.CheckLaws.{holds, passes, kept}
 use Rattle.pattern.specs.declared.refusals.Refusal.{Refusal}
 use Rattle.pattern.specs.declared.refusals.Refusal.TheVariants as variant
-use Rattle.pattern.specs.Refusal.{number_of, checked}
+use Rattle.pattern.proofs.AnswerLaws.{number-some}
+use Rattle.pattern.specs.Refusal.{number_of, refusal_in, checked}
 use Rattle.sheet.specs.Checks.{state_checks, state_refusal_by, start_refusal_by}
 use Rattle.sheet.specs.State.{blocks_of, start_refusal, open_refusal}
 use Rattle.sheet.specs.declared.Sheet.{Sheet}
 use Rattle.sheet.proofs.StateLaws.{start-kept, start-passed, Opened, started}
 
--- no refusal has the number 0
-pub number_some : (r : Refusal) → number_of r ≡ 0 → ⊥
-number_some variant.Size e = omega arith
-number_some variant.Length e = omega arith
-number_some variant.Table e = omega arith
-number_some variant.Offset e = omega arith
-number_some variant.Pattern e = omega arith
-number_some variant.Entry e = omega arith
-number_some variant.Kind e = omega arith
-number_some variant.Sides e = omega arith
-number_some variant.Form e = omega arith
-number_some variant.NoPattern e = omega arith
-number_some variant.Full e = omega arith
-number_some variant.NoTexture e = omega arith
-number_some variant.Missing e = omega arith
-number_some variant.Placed e = omega arith
-number_some variant.OffsetPastTable e = omega arith
+-- a call that has no refusal is not refused
+pub accepted-ok : {A : Type 0} (r : Result A Refusal) → refusal_in r ≡ 0 → IsOk r
+accepted-ok (Ok a) e = refl
+accepted-ok (Err k) e = absurd (number-some k e)
 
 -- a check that passes holds, and one that does not gives its refusal
 pub checked-ok : (ok : Bool) (r : Refusal) → Ok tt ≡ checked ok r → ok ≡ true
@@ -48,7 +35,7 @@ module _ (S : Sheet) (lengths : Bool) where
       (r : Refusal) → number_of r ≡ state_refusal_by S.n S.width S.height S.placed lengths 0 → number_of r ≡ start_refusal S lengths 0
   unfolding start_refusal_by
   state_kept r e =
-      e ∙ sym (kept (state_checks S.n S.width S.height S.placed lengths) _ (λ z. number_some r (e ∙ z)))
+      e ∙ sym (kept (state_checks S.n S.width S.height S.placed lengths) _ (λ z. number-some r (e ∙ z)))
 
   -- past them, whether there is a block to place
   pub state_passed :
@@ -66,7 +53,7 @@ module _ (S : Sheet) (lengths asked : Bool) (rest : ℕ) {l a : Bool} (judged : 
 
   -- the state is refused
   pub state-refused : (r : Refusal) → number_of r ≡ start_refusal S l 0 → number_of r ≡ open_refusal S lengths asked rest
-  state-refused r e = let q = starting e in q ∙ sym (start-kept S lengths _ (λ z. number_some r (q ∙ z)))
+  state-refused r e = let q = starting e in q ∙ sym (start-kept S lengths _ (λ z. number-some r (q ∙ z)))
 
   module _ (going : 0 ≡ start_refusal S l 0) where
     -- the table is refused

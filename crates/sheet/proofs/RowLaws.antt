@@ -1,6 +1,6 @@
 -- Arrays that are filled from a sheet's samples: the neighbours and the rows of a block; and rows that are put into the samples.
 use Prim.Native.Nat.{ℕ, zero, suc, ◌+◌, ◌-◌, ◌*◌, ◌≤◌, ◌<◌}
-use mathlib.Core.Bool.{true}
+use mathlib.Core.Bool.{Bool, true, false, cond}
 use mathlib.Core.List.{List, [], ◌∷◌, ◌++◌}
 use mathlib.Core.Path.{◌≡◌, refl, sym, ap, ◌∙◌}
 use native.Mathlib.Decide.{dec_lt}
@@ -20,7 +20,11 @@ use Rattle.pattern.specs.Size.{greatest_size, size_ok}
 use Rattle.pattern.proofs.SizeLaws.{size-bounds}
 use Rattle.sheet_grid.specs.Grid.{Inside}
 use Rattle.sheet_grid.specs.Neighbours.{read_from}
-use Rattle.sheet_grid.specs.Counts.{left_count, top_count, left_first, top_first, runs_at}
+use Rattle.std.specs.Prelude.{Option, Some, None, min}
+use lib.Dec.{ltb}
+use Rattle.sheet_grid.specs.Counts.{left_count, top_count, left_first, top_first, run_at, runs_at}
+use Rattle.sheet.specs.Runs.{beside, neighbour_of, Is}
+use Rattle.sheet.specs.declared.spot.Run.{Run}
 use Rattle.sheet_grid.specs.Samples.{with_row}
 use Rattle.sheet_grid.proofs.SampleLaws.{row_at, after_rows, after_more}
 
@@ -90,6 +94,32 @@ module _ (a n : ℕ) (xs ys : List ℕ) (room : a + n ≤ length xs) (whole : le
 -- neighbour i of the block at (x, y), by its two runs
 abbrev pub near_at : ℕ → ℕ → ℕ → ℕ → List ℕ → ℕ → ℕ
 near_at n w x y s i = read_from s (runs_at n w (left_count n x) (left_first w x y) (top_count n w x y) (top_first w x y) i)
+
+-- what the code reads beside a run is what stands there by the run's count, first place and step
+beside-run :
+    (s : List ℕ) (own other : Option Run) (c f t d g u i : ℕ) → Is own s c f t → Is other s d g u
+    → beside own other i ≡ read_from s (run_at c f t d g i)
+beside-run s (Some r) other c f t d g u i p q =
+    let last : c - 1 ≡ r.last = omega (arith, p.1.0) in
+    rw (lt-ltb 0 c (omega (arith, p.1.0)), last, p.0, p.1.1.0, p.1.1.1)
+beside-run s None (Some r) c f t d g u i p q =
+    let low : min 0 r.last ≡ 0 = omega arith in
+    let zero : r.first + 0 * r.step ≡ g = omega (arith, q.1.1.0) in
+    rw (p, lt-ltb 0 d (omega (arith, q.1.0)), q.0, low, zero)
+beside-run s None None c f t d g u i p q = rw (p, q)
+
+-- so is each neighbour
+pub neighbour-near :
+    (n w x y : ℕ) (s : List ℕ) (left top : Option Run) (i : ℕ) → Is left s (left_count n x) (left_first w x y) w
+    → Is top s (top_count n w x y) (top_first w x y) 1 → neighbour_of n left top i ≡ near_at n w x y s i
+neighbour-near n w x y s left top i p q = go (ltb i (2 * n))
+  where
+    go :
+        (b : Bool)
+        → cond b (beside left top i) (beside top left (i - 2 * n))
+        ≡ read_from s (cond b (run_at (left_count n x) (left_first w x y) w (top_count n w x y) (top_first w x y) i) (run_at (top_count n w x y) (top_first w x y) 1 (left_count n x) (left_first w x y) (i - 2 * n)))
+    go true = beside-run s left top _ _ _ _ _ _ i p q
+    go false = beside-run s top left _ _ _ _ _ _ (i - 2 * n) q p
 
 -- row r of the block that is cut
 abbrev pub cut_row : ℕ → ℕ → ℕ → ℕ → List ℕ → ℕ → List ℕ

@@ -2,7 +2,6 @@
 use Prim.Native.Nat.{ℕ, ◌+◌, ◌*◌, ◌≤◌, ◌<◌}
 use mathlib.Core.Bool.{Bool, true}
 use mathlib.Core.List.{List, [], ◌∷◌, ◌++◌}
-use mathlib.Core.Logic.{⊎_elim}
 use mathlib.Core.Path.{◌≡◌}
 use native.Mathlib.Nat.{mul-le-mul}
 use native.Mathlib.Omega.{arith}
@@ -18,6 +17,7 @@ use Rattle.sheet_grid.specs.Grid.{longest, most_samples, side_ok, Inside}
 use Rattle.sheet.specs.Checks.{lengths_ok_by, start_checks, start_refusal_by}
 use Rattle.sheet.proofs.SideLaws.{side-bounds}
 use Rattle.sheet.specs.State.{area, blocks_of, next_x, next_y, lengths_ok, start_refusal, open_refusal, Open, Lengths}
+use Rattle.sheet.specs.Next.{Next}
 use Rattle.sheet.specs.declared.Sheet.{Sheet}
 use Rattle.sheet_grid.proofs.GridLaws.{blocks-few, block_inside}
 
@@ -29,21 +29,8 @@ area-few S o = mul-le-mul {n₁ = S.width} {m₁ = S.height} {n₂ = longest} {m
 pub next-inside : (S : Sheet) {samples : ℕ} → Open S → samples ≡ area S → Inside S.n S.width samples (next_x S) (next_y S)
 next-inside S o e = rw e (block_inside S.n S.width S.height S.placed (omega (arith, o.low)) o.high o.wide o.missing)
 
--- where the next block lies, as the code has it
-pub record Next (S : Sheet) (n w x y : ℕ) : Type 0 where
-  pub is_open : Open S
-  pub size : n ≡ S.n
-  pub wide : w ≡ S.width
-  pub column : x ≡ next_x S
-  pub row : y ≡ next_y S
-
 pub down-at : (S : Sheet) {n w x y samples : ℕ} → Next S n w x y → samples ≡ area S → (y + n) * w ≤ samples
 down-at S at e = rw (at.size, at.wide, at.row) (next-inside S at.is_open e).down
-
--- texture that is lent is as large as the sheet
-pub texture-whole :
-    (S : Sheet) {samples patterns count texture : ℕ} → Lengths S samples patterns count texture → 0 < texture → texture ≡ area S
-texture-whole S l h = ⊎_elim (λ e. absurd (omega arith)) (λ e. e) l.optional
 
 -- there is no more than one block placed for each sample
 pub placed-few : (S : Sheet) → Open S → S.placed < most_samples

@@ -1,27 +1,27 @@
 -- What holds in a turn of the loop that composes, and at its ends.
-use Prim.Native.Nat.{ℕ, ◌≤◌, ◌<◌}
+use Prim.Native.Nat.{ℕ, ◌<◌}
 use mathlib.Core.Bool.{true}
 use mathlib.Core.List.{List}
 use mathlib.Core.Logic.{⊎_elim}
-use mathlib.Core.Path.{◌≡◌, sym, ap, ap₂, ◌∙◌}
+use mathlib.Core.Path.{◌≡◌, sym, ap, ◌∙◌}
 use native.Mathlib.Omega.{arith}
 use lib.IntN.{ℤ}
 use lib.ListN.{length}
-use Rattle.arith.specs.Checks.{Answer, refused, given, answer}
+use Rattle.arith.specs.Checks.{refused, given}
 use Rattle.arith.specs.Lists.{list_of}
-use Rattle.arith.proofs.CheckLaws.{lent-refused, lent-given}
+use Rattle.arith.proofs.CheckLaws.{lent-refused}
 use Rattle.depth_table.specs.Table.{table_ok}
 use Rattle.choice.specs.Refusal.{choose_refusal}
 use Rattle.record.specs.declared.Record.{Record}
 use Rattle.choice.proofs.AnswerLaws.{refused-for, given-for}
 use Rattle.choice.specs.Answer.{choose_answer}
-use Rattle.sheet.specs.State.{area, blocks_of, finished, Open, Lengths}
+use Rattle.sheet.specs.State.{area, Open, Lengths}
 use Rattle.depth_table.proofs.LevelLaws.{table-some}
 use Rattle.sheet.specs.Place.{placed_samples, Fits}
 use Rattle.sheet.specs.Compose.{missing, Task, compose_case, chosen_next, chosen_block, composed_next, composed_to, over, Leaves, choice_refusal, Ready}
 use Rattle.sheet.specs.declared.Sheet.{Sheet}
 use Rattle.sheet.proofs.ComposeLaws.{choose-refusal}
-use Rattle.sheet.proofs.TurnLaws.{after-end, open_after, Going}
+use Rattle.sheet.proofs.TurnLaws.{open_after, Going}
 
 -- ---- what holds in a turn
 
@@ -107,23 +107,7 @@ module _ (S : Sheet) (T : Task) (samples0 : List ℕ) (records0 : List (List ℤ
         records_are = (rw z at going.records_are) ∙ lent-refused (choice_refusal S T) _ records0 h;
       }
 
-  -- all blocks are composed
+  -- where all blocks are composed, nothing was refused
   module _ (all : k ≡ missing S) (some : 0 < missing S) where
     pub end_none : choice_refusal S T ≡ 0
     end_none = ⊎_elim (λ e. absurd (omega arith)) (λ e. e) going.begun
-
-    pub left-all : Leaves (choice_refusal S T) S T samples0 samples records0 records
-    left-all =
-        record {
-          samples_are = (rw all at going.painted) ∙ lent-given (choice_refusal S T) _ samples0 end_none;
-          records_are = (rw all at going.records_are) ∙ lent-given (choice_refusal S T) _ records0 end_none;
-        }
-
-    told : Sheet → ℕ → Answer (Sheet × ℕ)
-    told u j = given (u, j)
-
-    pub told-all :
-        {m : ℕ} → S.placed ≤ blocks_of S → m ≡ missing S → ◌≡◌ {A = Answer (Sheet × ℕ)} (given (state, m)) (answer (choice_refusal S T) (finished S, missing S))
-    unfolding told
-    told-all {m} h e =
-        rw end_none (ap₂ told (going.at_k ∙ after-end S k h all) e)

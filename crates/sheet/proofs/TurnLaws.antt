@@ -1,5 +1,5 @@
 -- The loop that composes, turn by turn.
-use Prim.Native.Nat.{ℕ, suc, ◌+◌, ◌≤◌, ◌<◌}
+use Prim.Native.Nat.{ℕ, suc, ◌+◌, ◌<◌}
 use mathlib.Core.List.{List}
 use mathlib.Core.Logic.{◌⊎◌, inl, inr}
 use mathlib.Core.Path.{◌≡◌, refl, sym, ap, ◌∙◌}
@@ -13,7 +13,7 @@ use Rattle.arith.specs.Lists.{list_of}
 use Rattle.arith.proofs.ListLaws.{length-list_of}
 use Rattle.record.specs.declared.Record.{Record}
 use Rattle.record.specs.Lent.{fields_of}
-use Rattle.sheet.specs.State.{state_of, after, blocks_of, finished, Open}
+use Rattle.sheet.specs.State.{after, Open}
 use Rattle.sheet.specs.Place.{placed_samples}
 use Rattle.sheet.specs.Compose.{missing, Task, chosen_next, composed_to, composed_record, over, choice_refusal}
 use Rattle.sheet.specs.declared.Sheet.{Sheet}
@@ -38,11 +38,6 @@ after-none S = rw add-zero
 
 pub after_more : (S : Sheet) (k : ℕ) {u v : Sheet} → u ≡ after k S → v ≡ after 1 u → v ≡ after (k + 1) S
 after_more S k p q = rw (← add_assoc) (rw p at q)
-
-pub after-end : (S : Sheet) (k : ℕ) → S.placed ≤ blocks_of S → k ≡ missing S → after k S ≡ finished S
-after-end S k h e =
-    let q : S.placed + k ≡ blocks_of S = omega arith in
-    ap (λ (p : ℕ). state_of S.n S.width S.height p) q
 
 pub open_after : (S : Sheet) (k : ℕ) {u : Sheet} → Open S → k < missing S → u ≡ after k S → Open u
 open_after S k o h e =

@@ -6,3 +6,5 @@ pub mod Told
 pub mod Laws
 pub mod Examples
 pub mod Checks
+pub mod Runs
+pub mod Next

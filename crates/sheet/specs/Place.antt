@@ -1,5 +1,5 @@
 -- Document 01, "Sheet": placing a record.
-use Rattle.std.specs.Prelude.{ℕ, zero, suc, ◌*◌, ◌≡◌, Bool, true, cond, List, [], ◌⊎◌, ℤ, length}
+use Rattle.std.specs.Prelude.{ℕ, zero, suc, ◌≡◌, Bool, true, cond, List, [], ℤ, length}
 use Rattle.arith.specs.Checks.{Answer, answer, lent}
 use Rattle.depth_table.specs.Offset.{offsets_ok, offsets_usable}
 use Rattle.depth_table.specs.Table.{table_ok, some_value}
@@ -95,10 +95,6 @@ pub record Drawable (n w : ℕ) (t : List ℕ) (off0 off1 : ℤ) : Type 0 where
   pub valued : some_value t ≡ true
   pub allowed : offsets_ok off0 off1 ≡ true
   pub usable : offsets_usable (length t) off0 off1 ≡ true
-
--- a block's own texture: none, or as many samples as it has
-abbrev pub Lit : ℕ → ℕ → Type 0
-Lit n texture = (texture ≡ 0) ⊎ (texture ≡ n * n)
 
 -- a state that has a block to place, what is lent fits it, and the table has a value
 pub record Fits (S : Sheet) (M : Material) (samples : ℕ) : Type 0 where

@@ -10,14 +10,13 @@ ghost use Rattle.sheet.specs.Compose.{missing, compose_lengths_ok, compose_case,
 ghost use Rattle.sheet.specs.Compose.{compose_answer, compose_after, compose_records};
 ghost use Rattle.sheet.specs.Told.{material_in, task_in, composed_values};
 
-use crate::drawing::choose_at;
+use crate::spot::Room;
 use crate::{ComposeInput, Composed, Sheet};
 use choice::Choice;
 use pattern::{Refusal, check};
 
 impl Sheet {
-    // Chooses the record of the next block, and draws it from the neighbours and the texture that it was chosen for. It fills its own
-    // arrays, as `draw_next` does: a case is lent slices of them, and there is no heap to keep them past a call.
+    // Chooses the record of the next block, and draws it from the neighbours and the texture that it was chosen for.
     fn compose_next(self, samples: &mut [u8], input: ComposeInput) -> Result<Choice, Refusal>
         requires fits { Fits self (material_in self.n input.place) (length samples.old) }
         requires whole { length input.original.now ≡ area self }
@@ -25,20 +24,8 @@ impl Sheet {
             told chosen_values result ≡ choose_answer (compose_case self T samples.old) }
         ensures left { let T = task_in self.n input.entry in samples.new ≡ composed_next self T samples.old }
     {
-        let spot = self.next_spot();
-        let near = spot.neighbours(samples);
-        let own = spot.cut_samples(input.original)?;
-        let light = spot.light(input.place.texture)?;
-        let case = choice::Input {
-            n: spot.n,
-            list: input.place.list,
-            border: &near[..4 * spot.n],
-            original: &own[..spot.n * spot.n],
-            table: input.place.table,
-            reach: input.reach,
-            texture: &light[..spot.lent_part(input.place.texture)],
-        };
-        choose_at(samples, spot, case)
+        let mut room = Room::new();
+        self.next_drawing(samples, input, &mut room).choose(samples)
     }
 
     // Chooses, places and records every missing block in turn. The choice for the first block is refused where any would be.

@@ -29,7 +29,8 @@ pub struct Sheet {
     pub placed: u32,
 }
 
-// What records are placed with: the wedgelet list, the depth table, and texture of the whole sheet; an empty texture is none.
+// What records are placed with: the wedgelet list, the depth table, and texture of the whole sheet; an empty texture is none, as in a
+// choice.
 #[derive(Clone, Copy)]
 pub struct PlaceInput<'a> {
     pub list: PatternList<'a>,

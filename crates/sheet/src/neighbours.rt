@@ -1,56 +1,41 @@
 // The neighbours of a block, read from the sheet's samples.
-ghost use Rattle.std.specs.Prelude.{◌≡◌, ℕ, ◌+◌, ◌-◌, ◌*◌, ◌^◌, ◌<◌, ◌≤◌, cond, ltb, min, length, get_or, Some, None};
-ghost use Rattle.pattern.specs.Size.{greatest_size, greatest_neighbours};
-ghost use Rattle.sheet_grid.specs.Neighbours.{read_from};
-ghost use Rattle.sheet_grid.specs.Counts.{left_count, above_count, top_count, left_first, top_first, RunIn, run_at, runs_at, counted};
-ghost use Rattle.sheet_grid.specs.Samples.{filled};
+ghost use Rattle.std.specs.Prelude.{◌≡◌, ◌≤◌};
+ghost use Rattle.pattern.specs.Size.{greatest_size};
+ghost use Rattle.sheet_grid.specs.Counts.{left_count, above_count, top_count, left_first, top_first, counted};
+ghost use Rattle.sheet.specs.Runs.{sample_of, beside, neighbour_of, Is};
 
-use crate::spot::Spot;
+use crate::spot::{Run, Spot, View};
 use pattern::NEIGHBOURS;
 
-// A run of neighbours among the sheet's samples: how many are present, the place of the first, and how far apart they stand.
-#[derive(Clone, Copy)]
-struct Run {
-    count: usize,
-    first: usize,
-    step: usize,
+impl Run<'_> {
+    // Sample i of the run, and past its last that one.
+    fn sample(self, i: usize) -> u8
+        ensures { result ≡ sample_of self.entry i }
+    {
+        self.samples[self.first + i.min(self.last) * self.step]
+    }
 }
 
-impl Run {
-    // Sample i of the run, and past those present the last; none where none is present.
-    fn sample(self, samples: &[u8], i: usize) -> Option<u8>
-        requires { (j : ℕ) → j < self.count → self.first + j * self.step < length samples.now }
-        ensures { result
-            ≡ cond (ltb 0 self.count) (Some (get_or samples.now (self.first + min i (self.count - 1) * self.step) 0)) None }
-    {
-        let last = self.count.checked_sub(1)?;
-        Some(samples[self.first + i.min(last) * self.step])
-    }
-
-    // Neighbour i of the run: where no sample of it is present the first of the other run stands, or 128.
-    fn neighbour(self, other: Run, samples: &[u8], i: usize) -> u8
-        requires own { RunIn (length samples.now) self.count self.first self.step other.count other.first }
-        requires others { RunIn (length samples.now) other.count other.first other.step self.count self.first }
-        ensures { result ≡ read_from samples.now (run_at self.count self.first self.step other.count other.first i) }
-    {
-        self.sample(samples, i)
-            .or_else(|| other.sample(samples, 0))
-            .unwrap_or(128)
+// Place i beside a run: where there is none the first sample of the other run stands, or 128.
+fn beside(run: Option<Run>, other: Option<Run>, i: usize) -> u8
+    ensures { result ≡ beside run.entry other.entry i }
+{
+    match (run, other) {
+        (Some(run), _) => run.sample(i),
+        (None, Some(other)) => other.sample(0),
+        (None, None) => 128,
     }
 }
 
 // Neighbour i of a block by its two runs: the left run, then the top run.
-fn neighbour(samples: &[u8], n: usize, left: Run, top: Run, i: usize) -> u8
-    requires small { n ≤ greatest_size }
-    requires beside { top.step ≡ 1 }
-    requires own { RunIn (length samples.now) left.count left.first left.step top.count top.first }
-    requires others { RunIn (length samples.now) top.count top.first 1 left.count left.first }
-    ensures { result ≡ read_from samples.now (runs_at n left.step left.count left.first top.count top.first i) }
+fn neighbour(n: usize, left: Option<Run>, top: Option<Run>, i: usize) -> u8
+    requires { n ≤ greatest_size }
+    ensures { result ≡ neighbour_of n left.entry top.entry i }
 {
     if i < 2 * n {
-        left.neighbour(top, samples, i)
+        beside(left, top, i)
     } else {
-        top.neighbour(left, samples, i - 2 * n)
+        beside(top, left, i - 2 * n)
     }
 }
 
@@ -65,63 +50,51 @@ impl Spot {
             self.n
         }
     }
+}
 
+impl<'a> View<'a> {
     // The left run: n samples where there is a block to the left.
-    fn left_run(self) -> Run
-        requires { self.y * self.width + self.x < 2 ^ 64 }
-        ensures count { result.count ≡ left_count self.n self.x }
-        ensures first { result.first ≡ left_first self.width self.x self.y }
-        ensures step { result.step ≡ self.width }
+    fn left_run(self) -> Option<Run<'a>>
+        ensures { let S = self.entry.spot in
+            Is result self.entry.samples.now (left_count S.n S.x) (left_first S.width S.x S.y) S.width }
     {
-        let step = self.width;
-        match self.x.checked_sub(1) {
-            Some(column) => Run {
-                count: self.n,
-                first: self.y * self.width + column,
-                step,
-            },
-            None => Run {
-                count: 0,
-                first: 0,
-                step,
-            },
-        }
+        let spot = self.spot;
+        let column = spot.x.checked_sub(1)?;
+        Some(Run {
+            samples: self.samples,
+            first: spot.y * spot.width + column,
+            step: spot.width,
+            last: spot.n - 1,
+        })
     }
 
     // The top run: the samples of the row above, where there is one.
-    fn top_run(self) -> Run
-        requires { self.y * self.width + self.x < 2 ^ 64 }
-        ensures count { result.count ≡ top_count self.n self.width self.x self.y }
-        ensures first { result.first ≡ top_first self.width self.x self.y }
-        ensures step { result.step ≡ 1 }
+    fn top_run(self) -> Option<Run<'a>>
+        ensures { let S = self.entry.spot in
+            Is result self.entry.samples.now (top_count S.n S.width S.x S.y) (top_first S.width S.x S.y) 1 }
     {
-        let step = 1;
-        match self.y.checked_sub(1) {
-            Some(row) => Run {
-                count: self.above_count(),
-                first: row * self.width + self.x,
-                step,
-            },
-            None => Run {
-                count: 0,
-                first: 0,
-                step,
-            },
-        }
+        let spot = self.spot;
+        let row = spot.y.checked_sub(1)?;
+        Some(Run {
+            samples: self.samples,
+            first: row * spot.width + spot.x,
+            step: 1,
+            last: spot.above_count() - 1,
+        })
     }
 
-    // The 4n neighbours of the block, then 0, in an array that has room for those of the greatest block: the library has no heap.
-    pub(crate) fn neighbours(self, samples: &[u8]) -> [u8; NEIGHBOURS]
-        requires { (self.y + self.n) * self.width ≤ length samples.now }
-        ensures { let near = counted self.n self.width self.x self.y (left_count self.n self.x) (top_count self.n self.width self.x self.y)
-            samples.now in
-            result ≡ filled greatest_neighbours (4 * self.n) near }
+    // The 4n neighbours of the block, put at the front of an array that has room for those of the greatest block; `from_fn` would make a
+    // second array.
+    pub(crate) fn neighbours<'b>(self, near: &'b mut [u8; NEIGHBOURS]) -> &'b [u8]
+        ensures { let S = self.entry.spot in
+            result.now ≡ counted S.n S.width S.x S.y (left_count S.n S.x) (top_count S.n S.width S.x S.y) self.entry.samples.now }
     {
+        let n = self.spot.n;
         let left = self.left_run();
         let top = self.top_run();
-        let mut near = [0u8; NEIGHBOURS];
-        for (i, place) in near[..4 * self.n].iter_mut().enumerate() {
-            *place = neighbour(samples, self.n, left, top, i);
+        let near = &mut near[..4 * n];
+        for (i, place) in near.iter_mut().enumerate() {
+            *place = neighbour(n, left, top, i);
         }
         near
     }

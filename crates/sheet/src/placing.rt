@@ -7,35 +7,30 @@ ghost use Rattle.sheet.specs.Place.{Fits, material_refusal, placed_samples, plac
 ghost use Rattle.sheet.specs.Place.{place_answer, place_after, place_values_answer, place_values_after};
 ghost use Rattle.sheet.specs.Told.{material_in};
 
-use crate::drawing::draw;
-use crate::{PlaceInput, Sheet};
+use crate::spot::Room;
+use crate::{ComposeInput, PlaceInput, Sheet};
 use pattern::{Refusal, check};
 use record::Record;
 
 impl Sheet {
-    // Draws a record in the next place, or refuses it with 7, 21, 6, 5, 4 or 24.
+    // Draws a record in the next place, or refuses it with 7, 21, 6, 5, 4 or 24. No original samples and no reach are read.
     fn draw_next(self, samples: &mut [u8], input: PlaceInput, r: Record) -> Result<(), Refusal>
         requires { Fits self (material_in self.n input) (length samples.old) }
         ensures number { let M = material_in self.n input.entry in refusal_in result ≡ material_refusal self M r }
         ensures left { let M = material_in self.n input.entry in let s = samples.old in
             samples.new ≡ lent (material_refusal self M r) (placed_samples self M s r) s }
     {
-        let spot = self.next_spot();
-        let near = spot.neighbours(samples);
-        let light = spot.light(input.texture)?;
-        let case = choice::Input {
-            n: spot.n,
-            list: input.list,
-            border: &near[..4 * spot.n],
+        let task = ComposeInput {
+            place: input,
             original: &[],
-            table: input.table,
             reach: 0,
-            texture: &light[..spot.lent_part(input.texture)],
         };
-        draw(samples, spot, case, r)
+        let mut room = Room::new();
+        self.next_drawing(samples, task, &mut room).draw(samples, r)
     }
 
-    // Places a record where no check fails; `asked` is whether the table is as it has to be.
+    // Places a record where no check fails; `asked` is whether the table is as it has to be. `place` and `place_from_values` promise
+    // different things of a table and are the same past it; the verdict is a bool, since this contract, for both, speaks of it.
     fn place_where(
         mut self,
         asked: bool,

@@ -1,14 +1,15 @@
 // One block of a sheet's samples: cut out, and put.
-ghost use Rattle.std.specs.Prelude.{◌≡◌, ◌+◌, ◌*◌, ◌<◌, ◌≤◌, cond, ltb, length, get_or, take, IsOkAnd};
+ghost use Rattle.std.specs.Prelude.{◌≡◌, ◌+◌, ◌*◌, ◌<◌, ◌≤◌, cond, length, get_or, []};
 ghost use Rattle.arith.specs.Lists.{upto};
 ghost use Rattle.block.specs.Block as rows;
 ghost use Rattle.block.specs.Block.{capacity};
+ghost use Rattle.pattern.specs.Answer.{textured};
 ghost use Rattle.sheet_grid.specs.Samples as grid;
 ghost use Rattle.sheet_grid.specs.Samples.{written, cut_block};
 
-use crate::spot::Spot;
+use crate::spot::{Spot, View};
 use block::{Block, CAPACITY, write_block};
-use pattern::{Refusal, SAMPLES};
+use pattern::SAMPLES;
 
 // The n samples from a place on, as a row of a block.
 fn row_at(samples: &[u8], n: usize, at: usize) -> [u8; CAPACITY]
@@ -20,53 +21,44 @@ fn row_at(samples: &[u8], n: usize, at: usize) -> [u8; CAPACITY]
     row
 }
 
-impl Spot {
-    // The block of a sheet's samples.
-    fn cut(self, samples: &[u8]) -> Block
-        requires { (self.y + self.n) * self.width ≤ length samples.now }
-        ensures { result ≡ cut_block self.n self.width self.x self.y samples.now }
+impl View<'_> {
+    // The block of the samples.
+    fn cut(self) -> Block
+        ensures { let S = self.entry.spot in result ≡ cut_block S.n S.width S.x S.y self.entry.samples.now }
     {
-        let n = self.n;
+        let Spot { n, width, x, y, .. } = self.spot;
         let mut b = [[0u8; CAPACITY]; CAPACITY];
         for (r, row) in b[..n].iter_mut().enumerate() {
-            *row = row_at(samples, n, (self.y + r) * self.width + self.x);
+            *row = row_at(self.samples, n, (y + r) * width + x);
         }
         b
     }
 
-    // Its samples row by row, at the front of an array, which has room for those of the greatest block: the library has no heap.
-    pub(crate) fn cut_samples(self, samples: &[u8]) -> Result<[u8; SAMPLES], Refusal>
-        requires { (self.y + self.n) * self.width ≤ length samples.now }
-        ensures { IsOkAnd result (λ own. take (self.n * self.n) own ≡ grid.cut self.n self.width self.x self.y samples.now) }
+    // Its samples row by row, put at the front of an array that has room for those of the greatest block.
+    fn cut_samples<'b>(self, own: &'b mut [u8; SAMPLES]) -> &'b [u8]
+        ensures { let S = self.entry.spot in result.now ≡ grid.cut S.n S.width S.x S.y self.entry.samples.now }
     {
-        let mut own = [0u8; SAMPLES];
-        write_block(self.n, self.cut(samples), &mut own[..self.n * self.n])?;
-        Ok(own)
+        let n = self.spot.n;
+        let own = &mut own[..n * n];
+        write_block(n, self.cut(), own).unwrap();
+        own
     }
+}
 
-    // The number of samples of the block's own texture: as many as the block has, and 0 where no texture is lent. It stands beside the
-    // array of `light`, since a slice of that array cannot leave the function that holds it.
-    pub(crate) fn lent_part(self, texture: &[u8]) -> usize
-        ensures { result ≡ cond (ltb 0 (length texture.now)) (self.n * self.n) 0 }
+impl Spot {
+    // The block's own part of samples that are lent, put at the front of an array; none where none are lent.
+    pub(crate) fn part<'b>(self, whole: &[u8], own: &'b mut [u8; SAMPLES]) -> &'b [u8]
+        requires { 0 < length whole.now → (self.y + self.n) * self.width ≤ length whole.now }
+        ensures { result.now ≡ cond (textured whole.now) (grid.cut self.n self.width self.x self.y whole.now) [] }
     {
-        if texture.is_empty() {
-            0
-        } else {
-            self.n * self.n
+        if whole.is_empty() {
+            return &own[..0];
         }
-    }
-
-    // The texture of the block, at the front of an array; all 0 where none is lent.
-    pub(crate) fn light(self, texture: &[u8]) -> Result<[u8; SAMPLES], Refusal>
-        requires { 0 < length texture.now → (self.y + self.n) * self.width ≤ length texture.now }
-        ensures { IsOkAnd result (λ light.
-            0 < length texture.now → take (self.n * self.n) light ≡ grid.cut self.n self.width self.x self.y texture.now) }
-    {
-        if texture.is_empty() {
-            Ok([0u8; SAMPLES])
-        } else {
-            self.cut_samples(texture)
+        View {
+            spot: self,
+            samples: whole,
         }
+        .cut_samples(own)
     }
 
     // Puts a block.

@@ -4,10 +4,13 @@ ghost use Rattle.pattern.specs.Refusal.{refusal_in, told};
 ghost use Rattle.sheet_grid.specs.Grid.{side_ok};
 ghost use Rattle.sheet.specs.Checks.{sides_ok_by, new_refusal, state_refusal_by};
 ghost use Rattle.sheet.specs.State.{area, blocks_of, lengths_ok, new_answer, next_x, next_y, start_refusal, Open};
-ghost use Rattle.sheet.specs.Told.{material_in};
+ghost use Rattle.choice.specs.Case.{case_in};
+ghost use Rattle.sheet.specs.Place.{Fits, next_case, next_texture};
+ghost use Rattle.sheet.specs.Next.{Next};
+ghost use Rattle.sheet.specs.Told.{material_in, task_in};
 
-use crate::spot::Spot;
-use crate::{LONGEST, PlaceInput, Sheet};
+use crate::spot::{Drawing, Room, Spot, View};
+use crate::{ComposeInput, LONGEST, PlaceInput, Sheet};
 use pattern::{Refusal, check, size_ok, texture_ok};
 
 // Whether a width or a height is a multiple of n, n to `LONGEST`.
@@ -49,7 +52,7 @@ impl Sheet {
     }
 
     // The number of its samples.
-    pub(crate) fn area(self) -> usize
+    pub fn area(self) -> usize
         ensures { result ≡ area self }
     {
         self.width as usize * self.height as usize
@@ -87,7 +90,8 @@ impl Sheet {
         check(u64::from(self.placed) <= self.blocks(), Refusal::Placed)
     }
 
-    // What is refused of a state that is to have a block to place: also 20, where all are placed.
+    // What is refused of a state that is to have a block to place: also 20, where all are placed. The lengths are judged by the caller, as
+    // in `check_state`, since composing is lent more than placing is.
     #[tactic(auto, using(crate::proofs::RefusalLaws::state_kept, crate::proofs::RefusalLaws::state_passed))]
     pub(crate) fn check_open(self, lengths: bool) -> Result<(), Refusal>
         ensures { refusal_in result ≡ start_refusal self lengths 0 }
@@ -111,5 +115,30 @@ impl Sheet {
             x: (self.placed % across * self.n) as usize,
             y: (self.placed / across * self.n) as usize,
         }
+    }
+    // The next block as it is drawn: its neighbours, and its own part of the original samples and of the texture, in the lent arrays.
+    pub(crate) fn next_drawing<'a>(
+        self,
+        samples: &[u8],
+        input: ComposeInput<'a>,
+        room: &'a mut Room,
+    ) -> Drawing<'a>
+        requires fits { Fits self (material_in self.n input.place) (length samples.now) }
+        requires whole { 0 < length input.original.now → length input.original.now ≡ area self }
+        ensures place { Next self result.spot.n result.spot.width result.spot.x result.spot.y }
+        ensures case { let T = task_in self.n input.entry in
+            case_in result.case ≡ next_case self T.material (next_texture self T.original) T.reach samples.now }
+    {
+        let spot = self.next_spot();
+        let case = choice::Input {
+            n: spot.n,
+            list: input.place.list,
+            border: View { spot, samples }.neighbours(&mut room.near),
+            original: spot.part(input.original, &mut room.own),
+            table: input.place.table,
+            reach: input.reach,
+            texture: spot.part(input.place.texture, &mut room.light),
+        };
+        Drawing { spot, case }
     }
 }

@@ -19,7 +19,7 @@ use Rattle.sheet.specs.Told.{task_in}
 use Rattle.sheet.proofs.PlaceLaws.{length-placed}
 use Rattle.sheet.proofs.TurnLaws.{going-none, going_more}
 use Rattle.sheet.proofs.TurnEnds.{Turn, turn, turn-fits, turn-refused, turn-kept, turn-none, turn-chosen, turn-painted}
-use Rattle.sheet.proofs.TurnEnds.{left-refused, left-all, told-all}
+use Rattle.sheet.proofs.TurnEnds.{left-refused}
 use Rattle.sheet.proofs.Sheet.compose_missing.Goals.{In-loop-record, Start}
 use Rattle.sheet.proofs.Sheet.compose_missing.Goals as goal
 
@@ -56,10 +56,10 @@ same-patterns :
     patterns_of c.loop-record.self.n words ≡ patterns_of c.args.self.n words
 same-patterns c = ap (λ (n : ℕ). patterns_of n c.args.input.place.list.words.now) (this c).same_size
 
-pub compose_next-requires : goal.compose_next-requires
-compose_next-requires c =
-    let l = (goal.at.compose_next-requires c).In-loop-record in
-    record { fits = rw (same-patterns l) (turn-fits (this l)); whole = (this l).original }
+pub compose_next-requires-clause-fits : goal.compose_next-requires-clause-fits
+compose_next-requires-clause-fits c =
+    let l = (goal.at.compose_next-requires-clause-fits c).In-loop-record in
+    rw (same-patterns l) (turn-fits (this l))
 
 pub returns-in_err-compose_next : goal.returns-in_err-compose_next
 returns-in_err-compose_next c =
@@ -98,19 +98,4 @@ loop-record-preserved c =
           painted
           (ap (λ (v : List ℤ). set c.loop-record.record-items c.loop-record.record-index v ++ kept) c.into.ensures
           ∙ sym (set-append_left c.loop-record.record-items kept c.loop-record.record-index _ (omega (arith, c.loop-record-test.true))));
-    }
-
-pub returns : goal.returns
-returns c =
-    let a = c.args in
-    let i = c.loop-record.invariant in
-    let t = task (goal.at.returns c).Start in
-    let all : c.loop-record.record-index ≡ missing a.self =
-    omega (arith, c.blocks-last.ensures, i.room, c.loop-record.auto.record-index-end, c.loop-record-test.false) in
-    let some : 0 < missing a.self = omega (arith, c.requires.is_open.missing) in
-    record {
-      answered =
-          told-all a.self t a.samples.now a.records.now i.going all some
-          (omega (arith, c.requires.is_open.missing)) (omega (arith, c.blocks-last.ensures));
-      left = left-all a.self t a.samples.now a.records.now i.going all some;
     }
