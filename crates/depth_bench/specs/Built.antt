@@ -12,7 +12,7 @@ use Rattle.record.specs.Meaning.{kind_refusal}
 
 -- the pattern of n by n samples that four words handed in stand for: up to 8 by 8 word 0 alone, whatever the others hold
 abbrev pub used_words : ℕ → ℕ → ℕ → ℕ → ℕ → ℕ
-used_words n word0 word1 word2 word3 = used_number n (record { w0 = word0; w1 = word1; w2 = word2; w3 = word3 })
+used_words n word0 word1 word2 word3 = used_number n (record { words = word0 ∷ word1 ∷ word2 ∷ word3 ∷ [] })
 
 -- the list is the patterns that `wedgelets` leaves in words enough for every size
 abbrev pub built_list : ℕ → List ℕ

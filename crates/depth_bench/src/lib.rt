@@ -1,18 +1,18 @@
-// The calls that `depth_bench_c` exports for C: include/depth_bench.h has their declarations. C has neither `Result` nor references in a
-// struct, so that parameters stand one by one and an answer is a struct with the number of its refusal.
+// The calls that `depth_bench_c` exports for C: include/depth_bench.h has their declarations. C has no `Result`, so that an answer is a
+// struct with the number of its refusal.
 #![tactic(auto)]
 
 ghost use Rattle.std.specs.Prelude.{◌≡◌, true, ◌*◌, ltb, length, get_or};
 ghost use Rattle.arith.specs.Checks.{unless, answer};
 ghost use Rattle.pattern.specs.Refusal.{told};
 ghost use Rattle.pattern.specs.Size.{size_ok};
-ghost use Rattle.pattern.specs.Words.{pattern_number, patterns_of};
+ghost use Rattle.pattern.specs.Words.{pattern_number, in_four, used_number, patterns_of};
 ghost use Rattle.wedgelet.specs.Wedgelet.{wedgelet_list};
 ghost use Rattle.prediction.specs.Answer.{predict_answer, predict_block};
 ghost use Rattle.choice.specs.Answer.{choose_answer, chosen_values};
 ghost use Rattle.choice.specs.Case.{case_of, case_in};
-ghost use Rattle.depth_bench.specs.Built.{used_words, built_list, built_case, pattern_answer};
-ghost use Rattle.depth_bench.specs.Structs.{prediction_struct, choice_struct, LeastChoice, pattern_struct};
+ghost use Rattle.depth_bench.specs.Built.{built_list, built_case, pattern_answer};
+ghost use Rattle.depth_bench.specs.Structs.{prediction_struct, choice_struct, LeastChoice, pattern_struct, words_struct};
 
 use pattern::{PatternList, Refusal, WORDS};
 use record::Kind;
@@ -20,7 +20,7 @@ use wedgelet::LIST_WORDS;
 
 // The number of marks, or the number of the refusal beside 0.
 #[repr(C)]
-#[derive(Clone, Copy)]
+#[derive(Clone, Copy, Default)]
 pub struct Prediction {
     pub refusal: u32,
     pub marks: u32,
@@ -28,7 +28,7 @@ pub struct Prediction {
 
 // The chosen record, its cost, and how many offsets were tried; or the number of the refusal beside 0.
 #[repr(C)]
-#[derive(Clone, Copy)]
+#[derive(Clone, Copy, Default)]
 pub struct Choice {
     pub refusal: u32,
     pub kind: u32,
@@ -42,7 +42,7 @@ pub struct Choice {
 // The words of a pattern, lowest bit first: bit y * n + x is the mark of sample (x, y), so that for n = 16 word k has rows 4k to 4k + 3,
 // and below that words 1 to 3 are 0; or the number of the refusal beside zeros.
 #[repr(C)]
-#[derive(Clone, Copy)]
+#[derive(Clone, Copy, Default)]
 pub struct Pattern {
     pub refusal: u32,
     pub word: [u64; WORDS],
@@ -56,8 +56,11 @@ impl From<Result<u32, Refusal>> for Prediction {
         match answer {
             Ok(marks) => Prediction { refusal: 0, marks },
             Err(refusal) => {
-                let refusal = u32::from(u8::from(refusal));
-                Prediction { refusal, marks: 0 }
+                let refusal = u32::from(refusal);
+                Prediction {
+                    refusal,
+                    ..Prediction::default()
+                }
             }
         }
     }
@@ -79,15 +82,20 @@ impl From<Result<choice::Choice, Refusal>> for Choice {
                 tried: chosen.tried,
             },
             Err(refusal) => Choice {
-                refusal: u32::from(u8::from(refusal)),
-                kind: 0,
-                entry: 0,
-                off0: 0,
-                off1: 0,
-                cost: 0,
-                tried: 0,
+                refusal: u32::from(refusal),
+                ..Choice::default()
             },
         }
+    }
+}
+
+// A pattern, as C gets it.
+impl From<pattern::Pattern> for Pattern {
+    ghost from_gives = { λ p c. c ≡ words_struct (in_four (pattern_number p)) };
+
+    fn from(p: pattern::Pattern) -> Pattern {
+        let word = p.words;
+        Pattern { refusal: 0, word }
     }
 }
 
@@ -97,13 +105,10 @@ impl From<Result<pattern::Pattern, Refusal>> for Pattern {
 
     fn from(answer: Result<pattern::Pattern, Refusal>) -> Pattern {
         match answer {
-            Ok(p) => Pattern {
-                refusal: 0,
-                word: [p.w0, p.w1, p.w2, p.w3],
-            },
+            Ok(p) => Pattern::from(p),
             Err(refusal) => Pattern {
-                refusal: u32::from(u8::from(refusal)),
-                word: [0u64; WORDS],
+                refusal: u32::from(refusal),
+                ..Pattern::default()
             },
         }
     }
@@ -111,101 +116,73 @@ impl From<Result<pattern::Pattern, Refusal>> for Pattern {
 
 // Writes the predicted block to the lent one, as `prediction::predict` does. Below n = 16 the pattern is word 0, and words 1 to 3 are not
 // read.
-pub fn depth_bench_predict(
-    n: usize,
-    word0: u64,
-    word1: u64,
-    word2: u64,
-    word3: u64,
-    border: &[u8],
-    table: &[u8],
-    off0: i32,
-    off1: i32,
-    block: &mut [u8],
-) -> Prediction
-    ensures { let w = used_words n word0 word1 word2 word3 in
-        (result ≡ prediction_struct (predict_answer n w border.now table.now off0 off1 (length block.old)))
-        × (block.new ≡ predict_block n w border.now table.now off0 off1 block.old) }
+pub fn depth_bench_predict(input: prediction::Input, block: &mut [u8]) -> Prediction
+    ensures { let I = input.entry in let w = used_number I.n I.pattern in
+        (result ≡ prediction_struct (predict_answer I.n w I.border.now I.table.now I.off0 I.off1 (length block.old)))
+        × (block.new ≡ predict_block I.n w I.border.now I.table.now I.off0 I.off1 block.old) }
 {
-    let input = prediction::Input {
-        n,
-        pattern: pattern::Pattern {
-            w0: word0,
-            w1: word1,
-            w2: word2,
-            w3: word3,
-        },
-        border,
-        table,
-        off0,
-        off1,
-    };
     Prediction::from(prediction::predict(input, block))
 }
 
-// The same choice with another list.
-fn with_list<'a>(input: choice::Input<'a>, list: PatternList<'a>) -> choice::Input<'a>
-    ensures { let I = input.entry in let L = list.entry in case_in result
-        ≡ case_of I.n (patterns_of I.n L.words.now) L.count I.border.now I.original.now I.table.now I.reach I.texture.now }
-{
-    choice::Input { list, ..input }
+// What a record is chosen from with the wedgelet list for n: the input of a choice but for its list, which a caller of these has not.
+#[derive(Clone, Copy)]
+pub struct ChoiceInput<'a> {
+    pub n: usize,
+    pub border: &'a [u8],
+    pub original: &'a [u8],
+    pub table: &'a [u8],
+    pub reach: u32,
+    pub texture: &'a [u8],
 }
 
-// The record of least cost with the wedgelet list for n, which is built where the choice is not refused. Of a list the checks see only
-// whether there is one and whether its patterns fit the block, so that one pattern without marks stands for it.
-#[tactic(auto, using(crate::proofs::Built::refusal_before), unfolding(choice::specs::Answer::choose_answer))]
-fn choose_built<'a>(
-    n: usize,
-    border: &'a [u8],
-    original: &'a [u8],
-    table: &'a [u8],
-    reach: u32,
-    texture: &'a [u8],
-) -> Result<choice::Choice, Refusal>
-    ensures { let C = built_case n border.now original.now table.now reach texture.now in
-        told chosen_values result ≡ choose_answer C }
-{
-    let list = PatternList {
-        words: &[0; WORDS],
-        count: 1,
-    };
-    let input = choice::Input {
-        n,
-        list,
-        border,
-        original,
-        table,
-        reach,
-        texture,
-    };
-    choice::check_choice(input)?;
-    let mut words = [0u64; LIST_WORDS];
-    let count = wedgelet::wedgelets(n, &mut words)?;
-    choice::choose(with_list(
-        input,
-        PatternList {
+impl<'a> ChoiceInput<'a> {
+    // The input of the choice with a list.
+    fn with_list(self, list: PatternList<'a>) -> choice::Input<'a>
+        ensures { let I = self.entry in let L = list.entry in case_in result
+            ≡ case_of I.n (patterns_of I.n L.words.now) L.count I.border.now I.original.now I.table.now I.reach I.texture.now }
+    {
+        choice::Input {
+            n: self.n,
+            list,
+            border: self.border,
+            original: self.original,
+            table: self.table,
+            reach: self.reach,
+            texture: self.texture,
+        }
+    }
+
+    // The record of least cost with the wedgelet list for n, which is built where the choice is not refused. Of a list the checks see
+    // only whether there is one and whether its patterns fit the block, so that one pattern without marks stands for it.
+    #[tactic(auto, using(crate::proofs::Built::refusal_before), unfolding(choice::specs::Answer::choose_answer))]
+    fn choose(self) -> Result<choice::Choice, Refusal>
+        ensures { let I = self.entry in
+            told chosen_values result ≡ choose_answer (built_case I.n I.border.now I.original.now I.table.now I.reach I.texture.now) }
+    {
+        choice::check_choice(self.with_list(PatternList {
+            words: &[0; WORDS],
+            count: 1,
+        }))?;
+        let mut words = [0u64; LIST_WORDS];
+        let count = wedgelet::wedgelets(self.n, &mut words)?;
+        choice::choose(self.with_list(PatternList {
             words: &words,
             count,
-        },
-    ))
+        }))
+    }
 }
 
 // The record of least cost, with the wedgelet list for n, as `choice::choose` finds it. What is refused is refused before the list is
 // built.
-pub fn depth_bench_choose(
-    n: usize,
-    border: &[u8],
-    original: &[u8],
-    table: &[u8],
-    reach: u32,
-    texture: &[u8],
-) -> Choice
-    ensures answered { let C = built_case n border.now original.now table.now reach texture.now in
+pub fn depth_bench_choose(input: ChoiceInput) -> Choice
+    ensures answered { let I = input.entry in
+        let C = built_case I.n I.border.now I.original.now I.table.now I.reach I.texture.now in
         result ≡ choice_struct (choose_answer C) }
-    ensures least { let C = built_case n border.now original.now table.now reach texture.now in
+    ensures least { let I = input.entry in
+        let C = built_case I.n I.border.now I.original.now I.table.now I.reach I.texture.now in
         LeastChoice C result }
 {
-    Choice::from(choose_built(n, border, original, table, reach, texture))
+    Choice::from(input.choose())
 }
 
 // The pattern of an entry of the wedgelet list for n; or refusal 6.
@@ -235,8 +212,7 @@ fn pattern_of(n: usize, kind: u32, entry: u32, texture: &[u8]) -> Result<pattern
     match Kind::try_from(kind)? {
         Kind::Wedgelet => listed_pattern(n, entry),
         Kind::Contour => {
-            pattern::check(entry == 0, Refusal::Kind)?;
-            pattern::check(!texture.is_empty(), Refusal::NoTexture)?;
+            record::check_contour(entry, !texture.is_empty())?;
             pattern::contour(n, texture)
         }
     }

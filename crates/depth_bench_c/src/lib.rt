@@ -8,7 +8,7 @@ ghost use Rattle.choice.specs.Answer.{choose_answer};
 ghost use Rattle.depth_bench.specs.Built.{used_words, built_case, pattern_answer};
 ghost use Rattle.depth_bench.specs.Structs.{prediction_struct, choice_struct, LeastChoice, pattern_struct};
 
-use depth_bench::{Choice, Pattern, Prediction};
+use depth_bench::{Choice, ChoiceInput, Pattern, Prediction};
 
 // Writes the predicted block to the lent one, as `prediction::predict` does. Below n = 16 the pattern is word 0, and words 1 to 3 are not
 // read.
@@ -29,9 +29,17 @@ pub extern "C" fn depth_bench_predict(
         (result ≡ prediction_struct (predict_answer n w border.now table.now off0 off1 (length block.old)))
         × (block.new ≡ predict_block n w border.now table.now off0 off1 block.old) }
 {
-    depth_bench::depth_bench_predict(
-        n, word0, word1, word2, word3, border, table, off0, off1, block,
-    )
+    let input = prediction::Input {
+        n,
+        pattern: pattern::Pattern {
+            words: [word0, word1, word2, word3],
+        },
+        border,
+        table,
+        off0,
+        off1,
+    };
+    depth_bench::depth_bench_predict(input, block)
 }
 
 // The record of least cost, with the wedgelet list for n, as `choice::choose` finds it. What is refused is refused before the list is
@@ -50,7 +58,15 @@ pub extern "C" fn depth_bench_choose(
     ensures least { let C = built_case n border.now original.now table.now reach texture.now in
         LeastChoice C result }
 {
-    depth_bench::depth_bench_choose(n, border, original, table, reach, texture)
+    let input = ChoiceInput {
+        n,
+        border,
+        original,
+        table,
+        reach,
+        texture,
+    };
+    depth_bench::depth_bench_choose(input)
 }
 
 // The pattern of a record: the entry of the wedgelet list for n, or the contour of the texture, as `depth_bench_choose` means them.

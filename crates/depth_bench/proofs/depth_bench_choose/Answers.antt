@@ -6,6 +6,6 @@ use Rattle.depth_bench.proofs.depth_bench_choose.Goals as goal
 
 pub returns-clause-least : goal.returns-clause-least
 returns-clause-least c =
-    let a = c.args in
-    least_built a.n a.border.now a.original.now a.table.now a.reach a.texture.now
-    (c.from.ensures ∙ ap choice_struct c.choose_built.ensures)
+    let I = c.args.input in
+    least_built I.n I.border.now I.original.now I.table.now I.reach I.texture.now
+    (c.from.ensures ∙ ap choice_struct c.choose.ensures)

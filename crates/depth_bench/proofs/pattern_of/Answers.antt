@@ -10,6 +10,6 @@ pub returns-in-Wedgelet : goal.returns-in-Wedgelet
 unfolding pattern_answer pattern_refusal
 returns-in-Wedgelet c = grind (arith, entry-refusal)
 
-pub returns-in_ok-check-in-Contour-2 : goal.returns-in_ok-check-in-Contour-2
+pub returns-in_ok-check_contour-in-Contour : goal.returns-in_ok-check_contour-in-Contour
 unfolding pattern_answer pattern_refusal contour_answer samples_refusal
-returns-in_ok-check-in-Contour-2 c = search rules
+returns-in_ok-check_contour-in-Contour c = search rules
