@@ -3,18 +3,21 @@
 // count.
 #![tactic(auto)]
 
-ghost use Rattle.std.specs.Prelude.{◌≡◌, length};
+ghost use Rattle.std.specs.Prelude.{◌≡◌, ◌≤◌, length};
+ghost use Rattle.depth_table.specs.Table.{most_values};
 ghost use Rattle.pattern.specs.Refusal.{told};
 ghost use Rattle.pattern.specs.Words.{patterns_of};
+ghost use Rattle.depth_bench.specs.Structs.{choice_struct};
 ghost use Rattle.choice.specs.Case.{case_of};
-ghost use Rattle.choice.specs.Answer.{choose_answer, chosen_values};
+ghost use Rattle.choice.specs.Answer.{choose_answer};
 ghost use Rattle.sheet.specs.State.{state_of};
 ghost use Rattle.record.specs.Lent.{record_at};
 ghost use Rattle.record_file.specs.Writing.{source_of, write_answer, write_after};
 ghost use Rattle.record_file.specs.Reading.{aids_of};
-ghost use Rattle.record_read.specs.Back.{lent_of, back_told};
-ghost use Rattle.file_calls.specs.Structs.{CallReads, file_read_of, file_written_of, chosen_of};
+ghost use Rattle.record_read.specs.Back.{lent_of, back_told, before_zeros};
+ghost use Rattle.file_calls.specs.Structs.{CallReads, file_read_of, file_written_of};
 
+use depth_bench::Choice;
 use depth_table::VALUES;
 use pattern::{PatternList, Refusal};
 use record_file::ReadInput;
@@ -24,7 +27,7 @@ use sheet::Sheet;
 // What reading answers: the number of a refusal (0 for none) and its line; where there is none, the finished state, and the table with its
 // count.
 #[repr(C)]
-#[derive(Clone, Copy)]
+#[derive(Clone, Copy, Default)]
 pub struct FileRead {
     pub refusal: u32,
     pub line: u32,
@@ -38,23 +41,20 @@ pub struct FileRead {
 
 // What writing answers: the length of the text, or the number of the refusal beside 0.
 #[repr(C)]
-#[derive(Clone, Copy)]
+#[derive(Clone, Copy, Default)]
 pub struct FileWritten {
     pub refusal: u32,
     pub length: usize,
 }
 
-// What a choice answers: the record of least cost, its cost, and how many offsets were tried; or the number of the refusal beside 0.
-#[repr(C)]
-#[derive(Clone, Copy)]
-pub struct FileChosen {
-    pub refusal: u32,
-    pub kind: u32,
-    pub entry: u32,
-    pub off0: i32,
-    pub off1: i32,
-    pub cost: u32,
-    pub tried: u32,
+// The values of a table before zeros.
+fn filled(table: &[u8]) -> [u8; VALUES]
+    requires { length table.now ≤ most_values }
+    ensures { result ≡ before_zeros table.now }
+{
+    let mut filled = [0u8; VALUES];
+    filled[..table.len()].copy_from_slice(table);
+    filled
 }
 
 // What `record_read::read` answers, as C gets it.
@@ -64,7 +64,7 @@ impl From<Result<FileBack, LineRefusal>> for FileRead {
     fn from(answer: Result<FileBack, LineRefusal>) -> FileRead {
         match answer {
             Ok(back) => {
-                let table = back.table;
+                let table = filled(back.table.as_slice());
                 FileRead {
                     refusal: 0,
                     line: 0,
@@ -72,19 +72,16 @@ impl From<Result<FileBack, LineRefusal>> for FileRead {
                     width: back.sheet.width,
                     height: back.sheet.height,
                     placed: back.sheet.placed,
-                    values: back.values,
+                    values: back.table.len() as u32,
                     table,
                 }
             }
             Err(refused) => FileRead {
-                refusal: u32::from(u8::from(refused.refusal)),
+                refusal: u32::from(refused.refusal),
                 line: refused.line,
-                n: 0,
-                width: 0,
-                height: 0,
-                placed: 0,
-                values: 0,
+                // Written out: that an array's default is these zeros has no proof here.
                 table: [0u8; VALUES],
+                ..FileRead::default()
             },
         }
     }
@@ -98,36 +95,8 @@ impl From<Result<usize, Refusal>> for FileWritten {
         match answer {
             Ok(length) => FileWritten { refusal: 0, length },
             Err(refusal) => FileWritten {
-                refusal: u32::from(u8::from(refusal)),
-                length: 0,
-            },
-        }
-    }
-}
-
-// What `choice::choose` answers, as C gets it.
-impl From<Result<choice::Choice, Refusal>> for FileChosen {
-    ghost from_gives = { λ answer c. c ≡ chosen_of (told chosen_values answer) };
-
-    fn from(answer: Result<choice::Choice, Refusal>) -> FileChosen {
-        match answer {
-            Ok(best) => FileChosen {
-                refusal: 0,
-                kind: best.record.kind,
-                entry: best.record.entry,
-                off0: best.record.off0,
-                off1: best.record.off1,
-                cost: best.cost,
-                tried: best.tried,
-            },
-            Err(refusal) => FileChosen {
-                refusal: u32::from(u8::from(refusal)),
-                kind: 0,
-                entry: 0,
-                off0: 0,
-                off1: 0,
-                cost: 0,
-                tried: 0,
+                refusal: u32::from(refusal),
+                ..FileWritten::default()
             },
         }
     }
@@ -210,10 +179,10 @@ pub extern "C" fn file_calls_choose(
     table: &[u8],
     reach: u32,
     texture: &[u8],
-) -> FileChosen
+) -> Choice
     ensures { let C = case_of n (patterns_of n list.now) count border.now original.now
         table.now reach texture.now in
-        result ≡ chosen_of (choose_answer C) }
+        result ≡ choice_struct (choose_answer C) }
 {
     let input = choice::Input {
         n,
@@ -224,5 +193,5 @@ pub extern "C" fn file_calls_choose(
         reach,
         texture,
     };
-    FileChosen::from(choice::choose(input))
+    Choice::from(choice::choose(input))
 }

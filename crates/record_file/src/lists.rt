@@ -4,7 +4,8 @@ ghost use Rattle.pattern.specs.Size.{for_size};
 
 use pattern::PatternList;
 
-// What a file is read with: a list for each size, and texture; an empty texture is none.
+// What a file is read with: a list for each size, and texture; an empty texture is none, as in a choice. The lists are three fields, since
+// C lends three, and an array of them would need a second numbering of the sizes.
 #[derive(Clone, Copy)]
 pub struct ReadInput<'a> {
     pub list4: PatternList<'a>,

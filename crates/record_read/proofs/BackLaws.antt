@@ -15,17 +15,18 @@ use Rattle.sheet_grid.proofs.GridLaws.{blocks-by-area}
 use Rattle.sheet.specs.declared.PlaceInput.{PlaceInput}
 use Rattle.sheet.specs.declared.Sheet.{Sheet}
 use Rattle.sheet.specs.Place.{Material, Fits, placed_in_turn}
-use Rattle.sheet.specs.State.{state_of, blocks_of, finished}
+use Rattle.sheet.specs.State.{state_of, area, blocks_of, finished}
 use Rattle.sheet.specs.Told.{material_in}
 use Rattle.record_text.specs.Lines.{Lined, refused_at, read, lines_then}
 use Rattle.record_text.proofs.LinesLaws.{refused-read, lines-parts}
 use Rattle.record_file.specs.Reading.{File, Aids, aids_in, front_lines, file_lines, lists_ok, read_lengths_ok, read_file}
 use Rattle.record_file.specs.declared.lists.ReadInput.{ReadInput}
 use Rattle.record_file.proofs.FileLaws.{size_small}
+use Rattle.record_read.specs.declared.blocks.Reading.{Reading}
 use Rattle.record_read.specs.declared.front.Front.{Front}
 use Rattle.record_read.specs.declared.lines.LineRefusal.{LineRefusal}
-use Rattle.record_read.specs.Back.{refused_back, material_for, in_turn, drawn_on, samples_back, Lent, lent_of, Leaves}
-use Rattle.record_read.specs.Step.{one_list, Begun, FrontRead, FrontSound, Counted, HasRoom, begun_at, front_size, table_of, area_of, block_lines, sheet_lines, placed_all, Left, ReadsAll}
+use Rattle.record_read.specs.Back.{before_zeros, refused_back, material_for, in_turn, drawn_on, samples_back, Lent, lent_of, Leaves}
+use Rattle.record_read.specs.Step.{one_list, Begun, FrontRead, FrontSound, Counted, HasRoom, begun_at, front_size, table_of, block_lines, sheet_lines, placed_all, Left, ReadsAll}
 use Rattle.record_read.proofs.EmptyLaws.{empty-same}
 use Rattle.record_read.proofs.RestLaws.{size-placeable}
 
@@ -56,7 +57,7 @@ front-refused A s e = rw (← e) refl
 -- the file, once the lines before its records are read
 pub file-is : (A : Aids) (s : List ℕ) (f : Front) → FrontRead (length A.texture) s f → file_lines A s ≡ sheet_lines A f
 unfolding file_lines
-file-is A s f r = rw (← r.is, r.sound.count) refl
+file-is A s f r = rw (← r.is) refl
 
 -- ---- the records
 
@@ -85,17 +86,21 @@ pub lends_in :
     → Lends (aids_in R) f I
 lends_in R f I w c t x = record { list = ap (patterns_of f.sheet.n) w; count = c; table = t; texture = x }
 
+-- where reading is once the lines before the records are read, by the table's length
+pub begun_line : (f : Front) (k : ℕ) → k ≡ length (table_of f) → ◌≡◌ {A = Reading} (record { rest = f.rest; line = 5 + k; sheet = f.sheet }) (begun_at f)
+begun_line f k e = rw e refl
+
 module _ (A : Aids) (f : Front) (sound : FrontSound (length A.texture) f) where
-  values-few : f.values ≤ most_values
+  values-few : length (table_of f) ≤ most_values
   values-few = (size_small (length A.texture) (front_size f) sound.size).values
 
-  pub area-few : area_of f ≤ most_samples
+  pub area-few : area f.sheet ≤ most_samples
   area-few =
       let z = size_small (length A.texture) (front_size f) sound.size in
       mul-le-mul {n₁ = f.sheet.width} {m₁ = f.sheet.height} {n₂ = longest} {m₂ = longest} z.width z.height
 
   -- where a small sheet's samples have room, so have its blocks
-  pub small-room : {samples records : ℕ} → area_of f ≤ samples → samples ≤ records * 16 → HasRoom f samples records
+  pub small-room : {samples records : ℕ} → area f.sheet ≤ samples → samples ≤ records * 16 → HasRoom f samples records
   small-room h k =
       let s = size_small (length A.texture) (front_size f) sound.size in
       record { samples_inside = h; records_in = omega (arith, blocks-by-area f.sheet.n f.sheet.width f.sheet.height s.low) }
@@ -110,15 +115,18 @@ module _ (A : Aids) (f : Front) (sound : FrontSound (length A.texture) f) where
     empty_is : state_of f.sheet.n f.sheet.width f.sheet.height 0 ≡ f.sheet
     empty_is = ap (state_of f.sheet.n f.sheet.width f.sheet.height) (sym sound.empty)
 
-    pub begun : {samples records : ℕ} → Counted A f.sheet.n → samples ≡ area_of f → records ≡ blocks_of f.sheet → Begun I (begun_at f) samples records
-    begun counted s r =
-        record {
+    pub begun :
+        {r : Reading} {samples records : ℕ} → r ≡ begun_at f → Counted A f.sheet.n → samples ≡ area f.sheet → records ≡ blocks_of f.sheet
+        → Begun I r samples records
+    begun {r} {samples} {records} from counted s b =
+        subst (λ (q : Reading). Begun I q samples records) (sym from)
+        (record {
           empty = sound.empty;
-          placeable = rw (s, ← material_is) (subst (λ (S : Sheet). Fits S (material_for A f.sheet.n (table_of f)) (area_of f)) empty_is
-              (size-placeable A (front_size f) (table_of f) sound.size sound.count counted));
-          room = sym r;
+          placeable = rw (s, ← material_is) (subst (λ (S : Sheet). Fits S (material_for A f.sheet.n (table_of f)) (area f.sheet)) empty_is
+              (size-placeable A (front_size f) (table_of f) sound.size refl counted));
+          room = sym b;
           low = omega (arith, values-few);
-        }
+        })
 
     -- the lines of the records, by what they are judged with
     abbrev lines_by : List ℕ → ℕ → List ℕ → List ℕ → Lined (List Record)
@@ -132,17 +140,20 @@ module _ (A : Aids) (f : Front) (sound : FrontSound (length A.texture) f) where
         ∙ ap (λ (t : List ℕ). lines_by (A.list f.sheet.n) (A.count f.sheet.n) A.texture t) lends.table
 
     -- a line of a record is refused
-    pub rest-refused : {samples : List ℕ} {new : Left} {e : LineRefusal} → ReadsAll I (begun_at f) samples new (Err e) → refused_at (number_of e.refusal) e.line ≡ sheet_lines A f
-    rest-refused {samples} q =
+    pub rest-refused :
+        {r : Reading} {samples : List ℕ} {new : Left} {e : LineRefusal} → r ≡ begun_at f → ReadsAll I r samples new (Err e)
+        → refused_at (number_of e.refusal) e.line ≡ sheet_lines A f
+    rest-refused {samples = samples} {new} {e} from all =
+        let q = subst (λ (r : Reading). ReadsAll I r samples new (Err e)) from all in
         let x = block_lines A (length (table_of f)) (begun_at f) in
         rw (← same-lines (placed_all M f.sheet samples) x (rw lines_are at q.told)) refl
 
-    module _ (samples : List ℕ) {drawn : List ℕ} {kept : List (List ℤ)} {S : Sheet} (before : Lent) (long : length samples ≡ area_of f) (done : S ≡ finished f.sheet) where
+    module _ (samples : List ℕ) {drawn : List ℕ} {kept : List (List ℤ)} {S : Sheet} (before : Lent) (long : length samples ≡ area f.sheet) (done : S ≡ finished f.sheet) where
       rest-of :
           (l : List Record) (u : List ℕ) → block_lines A (length (table_of f)) (begun_at f) ≡ read l u
           → ◌≡◌ {A = Left} (drawn, kept) (placed_all M f.sheet samples l) → length kept ≡ blocks_of f.sheet
-          → Leaves A (sheet_lines A f) before (record { refusal = 0; line = 0; sheet = S; values = f.values; table = f.table })
-          (lent_of (drawn ++ drop (area_of f) before.samples) (kept ++ drop (blocks_of f.sheet) before.records))
+          → Leaves A (sheet_lines A f) before (record { refusal = 0; line = 0; sheet = S; values = length (table_of f); table = before_zeros (table_of f) })
+          (lent_of (drawn ++ drop (area f.sheet) before.samples) (kept ++ drop (blocks_of f.sheet) before.records))
       unfolding samples_back
       rest-of l u is left whole =
           let stored : kept ≡ map fields_of l = ap (λ (y : Left). y.1) left in
@@ -155,23 +166,25 @@ module _ (A : Aids) (f : Front) (sound : FrontSound (length A.texture) f) where
           (empty-same f.sheet.n f.sheet.width f.sheet.height z.size z.sides M (in_turn l) samples long) in
           rw is
           (record {
-            answered = rw (done, sound.count, ← sound.held) refl;
+            answered = rw done refl;
             kept = rw (stored, number) refl;
-            drawn = ap (λ (y : List ℕ). y ++ drop (area_of f) before.samples) (painted ∙ ap (λ (m : Material). drawn_on E m (in_turn l)) (sym material_is));
+            drawn = ap (λ (y : List ℕ). y ++ drop (area f.sheet) before.samples) (painted ∙ ap (λ (m : Material). drawn_on E m (in_turn l)) (sym material_is));
           })
 
     -- all is read, and copied to the lent slices
     pub rest-read :
-        {samples drawn : List ℕ} {kept : List (List ℤ)} {S : Sheet} (more : List ℕ) (more' : List (List ℤ)) (before : Lent) → ReadsAll I (begun_at f) samples (drawn, kept) (Ok S)
-        → length samples ≡ area_of f → length drawn ≡ length samples → length kept ≡ blocks_of f.sheet
-        → {area blocks : ℕ} {to : List ℕ} {to' : List (List ℤ)} → area ≡ area_of f → blocks ≡ blocks_of f.sheet
-        → to ≡ take area (drawn ++ more) → to' ≡ take blocks (kept ++ more')
-        → Leaves A (sheet_lines A f) before (record { refusal = 0; line = 0; sheet = S; values = f.values; table = f.table })
-        (lent_of (to ++ drop area before.samples) (to' ++ drop blocks before.records))
-    rest-read {samples} {drawn} {kept} more more' before q long same whole e m d k =
+        {r : Reading} {samples drawn : List ℕ} {kept : List (List ℤ)} {S : Sheet} (more : List ℕ) (more' : List (List ℤ)) (before : Lent)
+        → r ≡ begun_at f → ReadsAll I r samples (drawn, kept) (Ok S)
+        → length samples ≡ area f.sheet → length drawn ≡ length samples → length kept ≡ blocks_of f.sheet
+        → {i j : ℕ} {to : List ℕ} {to' : List (List ℤ)} → i ≡ area f.sheet → j ≡ blocks_of f.sheet
+        → to ≡ take i (drawn ++ more) → to' ≡ take j (kept ++ more')
+        → Leaves A (sheet_lines A f) before (record { refusal = 0; line = 0; sheet = S; values = length (table_of f); table = before_zeros (table_of f) })
+        (lent_of (to ++ drop i before.samples) (to' ++ drop j before.records))
+    rest-read {samples = samples} {drawn} {kept} {S} more more' before from all long same whole e m d k =
+        let q = subst (λ (r : Reading). ReadsAll I r samples (drawn, kept) (Ok S)) from all in
         let x = block_lines A (length (table_of f)) (begun_at f) in
         let p = lines-parts (λ l s. read (placed_all M f.sheet samples l) s) x (drawn, kept) [] (sym (rw lines_are at q.told)) in
-        rw (d, k, e, m, take_at drawn more (area_of f) (same ∙ long), take_at kept more' (blocks_of f.sheet) whole)
+        rw (d, k, e, m, take_at drawn more (area f.sheet) (same ∙ long), take_at kept more' (blocks_of f.sheet) whole)
         (rest-of samples before long q.done p.value p.rest p.first (sym (same-value p.then)) whole)
 
 -- the first k places of an array of n

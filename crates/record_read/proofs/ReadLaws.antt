@@ -1,18 +1,19 @@
 -- Reading lines in a loop that stores what they say.
-use Rattle.std.proofs.Common.{ℕ, zero, suc, ◌+◌, ◌*◌, ◌≤◌, ◌<◌, ◌≡◌, refl, sym, ◌∙◌, ap, arith, List, [], ◌∷◌, ◌++◌, length, length-append, get_or, drop, append-nil, Bool, ◌&&◌, leb}
+use Rattle.std.proofs.Common.{ℕ, zero, suc, ◌+◌, ◌*◌, ◌≤◌, ◌<◌, ◌≡◌, refl, sym, ◌∙◌, ap, arith, List, [], ◌∷◌, ◌++◌, length, length-append, get_or, drop, append-nil, Bool, true, false, ◌&&◌, leb, Result, Ok, Err, rules}
 use borrow.Author.Tests.{lt-ltb, lt-leb}
 use Rattle.std.proofs.Math.ListN.{set, drop_of_length-le}
 use Rattle.std.proofs.Math.Seq.{drop-cons, set_at, append_snoc}
-use Rattle.arith.specs.Checks.{refusal}
-use Rattle.arith.proofs.CheckLaws.{holds, passes, kept}
+use Rattle.arith.specs.Checks.{refusal, refused, given, answer}
+use Rattle.arith.proofs.CheckLaws.{holds, passes, kept, refused-by, refused-means, answer-given, given-means}
 use Rattle.depth_table.specs.Table.{most_values}
 use Rattle.pattern.specs.Answer.{count_ok, texture_ok}
-use Rattle.pattern.specs.Refusal.{number_of}
+use Rattle.pattern.specs.Refusal.{number_of, checked}
 use Rattle.pattern.specs.Size.{size_ok, each_size, for_size}
 use Rattle.pattern.specs.Words.{whole_patterns, patterns_of}
 use Rattle.pattern.specs.declared.refusals.Refusal.{Refusal}
 use Rattle.sheet.specs.Checks.{new_refusal}
-use Rattle.sheet.specs.State.{state_of, sides_ok}
+use Rattle.sheet.specs.State.{state_of, sides_ok, new_answer}
+use Rattle.sheet.specs.declared.Sheet.{Sheet}
 use Rattle.record_text.specs.declared.fields.SizeFields.{SizeFields}
 use Rattle.pattern.proofs.WordLaws.{length-patterns}
 use Rattle.record_text.specs.Parsed.{Parsed, Parser, bad_form, found}
@@ -108,6 +109,13 @@ put_next d l v old {x} {i} c e h =
 
 -- ---- the size line's numbers
 
+-- a refusal is one only, and no success
+err-same : {A : Type 0} {r k : Refusal} → ◌≡◌ {A = Result A Refusal} (Err r) (Err k) → r ≡ k
+err-same e = cc
+
+err-never : {A X : Type 0} {r : Refusal} {a : A} → ◌≡◌ {A = Result A Refusal} (Err r) (Ok a) → X
+err-never e = absurd (let z : ◌≡◌ {A = Bool} true false = cc in search rules)
+
 module _ (texture : ℕ) (z : SizeFields) where
   -- the checks of size and sides, and those after them
   abbrev sizes : List (Bool × ℕ)
@@ -124,6 +132,42 @@ module _ (texture : ℕ) (z : SizeFields) where
   pub size_rest : 0 ≡ new_refusal z.n z.width z.height → size_meaning texture z ≡ refusal others 0
   unfolding size_meaning new_refusal
   size_rest e = passes sizes (refusal others 0) (holds sizes 0 (sym e)).0
+
+  -- a size or sides are refused, or the sheet is the empty one of them
+  pub head_refused : (r : Refusal) → refused (number_of r) ≡ new_answer z.n z.width z.height → refused (number_of r) ≡ answer (size_meaning texture z) z
+  unfolding new_answer
+  head_refused r e =
+      let q = refused-means (new_refusal z.n z.width z.height) (number_of r) (state_of z.n z.width z.height 0) (sym e) in
+      refused-by z (size_sides r q.0) (λ w. q.1 (sym q.0 ∙ w))
+
+  pub head_empty : {S : Sheet} → given S ≡ new_answer z.n z.width z.height → (0 ≡ new_refusal z.n z.width z.height) × (S ≡ state_of z.n z.width z.height 0)
+  unfolding new_answer
+  head_empty {S} e =
+      let q = given-means (new_refusal z.n z.width z.height) (state_of z.n z.width z.height 0) S (sym e) in
+      (sym q.0, sym q.1)
+
+  -- the texture is refused, or the number of values is, or neither
+  module _ (e : 0 ≡ new_refusal z.n z.width z.height) where
+    short : {k : ℕ} → suc k ≡ refusal others 0 → refused (suc k) ≡ answer (size_meaning texture z) z
+    short h = refused-by z (h ∙ sym (size_rest e)) (λ w. omega (arith, w))
+
+    pub head-length : {r : Refusal} {b : Bool} → Err r ≡ checked b Refusal.Length → b ≡ texture_ok texture (z.width * z.height) → refused (number_of r) ≡ answer (size_meaning texture z) z
+    head-length {b = true} h q = err-never h
+    head-length {r} {b = false} h q = rw (err-same h) (short (rw (← q) refl))
+
+    pub head-values :
+        {r : Refusal} {a b : Bool} → Ok tt ≡ checked a Refusal.Length → a ≡ texture_ok texture (z.width * z.height)
+        → Err r ≡ checked b Refusal.Table → b ≡ leb 1 z.values && leb z.values most_values → refused (number_of r) ≡ answer (size_meaning texture z) z
+    head-values {a = false} p q h t = err-never (sym p)
+    head-values {a = true} {b = true} p q h t = err-never h
+    head-values {r} {a = true} {b = false} p q h t = rw (err-same h) (short (rw (← q, ← t) refl))
+
+    pub head-whole :
+        {a b : Bool} → Ok tt ≡ checked a Refusal.Length → a ≡ texture_ok texture (z.width * z.height)
+        → Ok tt ≡ checked b Refusal.Table → b ≡ leb 1 z.values && leb z.values most_values → given z ≡ answer (size_meaning texture z) z
+    head-whole {a = false} p q h t = err-never (sym p)
+    head-whole {a = true} {b = false} p q h t = err-never (sym h)
+    head-whole {a = true} {b = true} p q h t = answer-given (size_meaning texture z) z (size_rest e ∙ rw (← q, ← t) refl)
 
 -- all are stored
 pub stored_all : {A : Type 0} (l old : List A) {x : List A} {i : ℕ} → x ≡ l ++ drop i old → length old ≤ i → x ≡ l

@@ -64,9 +64,14 @@ pub record Back : Type 0 where
 abbrev pub refused_back : ℕ → ℕ → Back
 refused_back n k = record { refusal = n; line = k; sheet = state_of 0 0 0 0; values = 0; table = replicate most_values 0 }
 
+-- a table's values before zeros, in an array of 256 bytes
+abbrev pub before_zeros : List ℕ → List ℕ
+before_zeros table = sets (replicate most_values 0) 0 table
+
 -- what the code's answer says
 abbrev pub back_told : Result FileBack LineRefusal → Back
-back_told (Ok b) = record { refusal = 0; line = 0; sheet = b.sheet; values = b.values; table = b.table }
+back_told (Ok b) =
+    record { refusal = 0; line = 0; sheet = b.sheet; values = length b.table.items; table = before_zeros b.table.items }
 back_told (Err e) = refused_back (number_of e.refusal) e.line
 
 -- the answer: the number of a refusal and its line, or the finished state and the table, its values before zeros, with its count
@@ -78,7 +83,7 @@ file_back (read F s) =
       line = 0;
       sheet = finished (empty_sheet F);
       values = length F.table;
-      table = sets (replicate most_values 0) 0 F.table;
+      table = before_zeros F.table;
     }
 
 -- ---- the call

@@ -1,12 +1,10 @@
 -- The lines before the records, and the lines of the records, one step a line: its record is placed on the sheet so far.
-use Rattle.std.specs.Prelude.{ℕ, ◌+◌, ◌*◌, ◌≤◌, List, [], ◌≡◌, ℤ, map, length, take, replicate, Result, Ok, Err, IfOk}
-use Rattle.std.proofs.lemmas.List.Edits.{sets}
-use Rattle.depth_table.specs.Table.{most_values}
+use Rattle.std.specs.Prelude.{ℕ, ◌+◌, ◌≤◌, List, [], ◌≡◌, ℤ, map, length, Result, Ok, Err, IfOk}
 use Rattle.pattern.specs.Refusal.{number_of}
 use Rattle.pattern.specs.Words.{patterns_of}
 use Rattle.record.specs.declared.Record.{Record}
 use Rattle.record.specs.Lent.{fields_of}
-use Rattle.sheet.specs.State.{after, blocks_of, finished}
+use Rattle.sheet.specs.State.{area, after, blocks_of, finished}
 use Rattle.sheet.specs.declared.PlaceInput.{PlaceInput}
 use Rattle.sheet.specs.declared.Sheet.{Sheet}
 use Rattle.sheet.specs.Place.{Material, Fits, placed_samples, placed_in_turn}
@@ -72,22 +70,17 @@ pub record ReadsAll (I : PlaceInput) (r : Reading) (samples : List ℕ) (new : L
 
 -- ---- the lines before the records
 
--- the size line's numbers, the table, and the number of samples
-abbrev pub front_size : Front → SizeFields
-front_size f = size_fields_of f.sheet.n f.sheet.width f.sheet.height f.values
-
+-- the table, and the size line's numbers
 abbrev pub table_of : Front → List ℕ
-table_of f = take f.values f.table
+table_of f = f.table.items
 
-abbrev pub area_of : Front → ℕ
-area_of f = f.sheet.width * f.sheet.height
+abbrev pub front_size : Front → SizeFields
+front_size f = size_fields_of f.sheet.n f.sheet.width f.sheet.height (length (table_of f))
 
--- a sound size line before an empty sheet, with the table that it tells of before zeros
+-- a sound size line before an empty sheet, with as many table values as it tells of
 pub record FrontSound (texture : ℕ) (f : Front) : Type 0 where
   pub size : size_meaning texture (front_size f) ≡ 0
   pub empty : f.sheet.placed ≡ 0
-  pub count : length (table_of f) ≡ f.values
-  pub held : f.table ≡ sets (replicate most_values 0) 0 (table_of f)
 
 -- what they hold where they are read
 pub record FrontRead (texture : ℕ) (s : List ℕ) (f : Front) : Type 0 where
@@ -108,11 +101,11 @@ pub record Counted (A : Aids) (n : ℕ) : Type 0 where
 
 -- where reading then is
 abbrev pub begun_at : Front → Reading
-begun_at f = record { rest = f.rest; line = 5 + f.values; sheet = f.sheet }
+begun_at f = record { rest = f.rest; line = 5 + length (table_of f); sheet = f.sheet }
 
 -- so many samples and records have room for the sheet
 pub record HasRoom (f : Front) (samples records : ℕ) : Type 0 where
-  pub samples_inside : area_of f ≤ samples
+  pub samples_inside : area f.sheet ≤ samples
   pub records_in : blocks_of f.sheet ≤ records
 
 -- the file that the lines after them give

@@ -2,7 +2,10 @@
 use Rattle.std.specs.Prelude.{ℕ, List, [], Result, Ok, Err}
 use Rattle.std.specs.Borrow.{Bor}
 use Rattle.pattern.specs.Refusal.{number_of}
+use Rattle.record_text.specs.declared.fields.SizeFields.{SizeFields}
 use Rattle.record_text.specs.Lines.{Lined, refused_at, read}
+use Rattle.record_file.specs.Text.{size_fields_of}
+use Rattle.record_read.specs.declared.head.Head.{Head}
 use Rattle.record_read.specs.declared.lines.LineRefusal.{LineRefusal}
 
 -- the value of an answer and the bytes that it leaves, by two functions of it, or the number of a refusal and its line
@@ -13,6 +16,13 @@ lined_by value rest (Err e) = refused_at (number_of e.refusal) e.line
 -- a value with the bytes after it
 abbrev pub lined : {A : Type 0} → Result (A × Bor (List ℕ)) LineRefusal → Lined A
 lined r = lined_by (λ p. p.0) (λ p. p.1.now) r
+
+-- the numbers of a size line, and what is said of them with the bytes after it
+abbrev pub head_fields : Head → SizeFields
+head_fields h = size_fields_of h.sheet.n h.sheet.width h.sheet.height h.values
+
+abbrev pub head_lined : Result (Head × Bor (List ℕ)) LineRefusal → Lined SizeFields
+head_lined r = lined_by (λ p. head_fields p.0) (λ p. p.1.now) r
 
 -- a given text with the bytes after it, and the end of the bytes
 abbrev pub text_lined : Result (Bor (List ℕ)) LineRefusal → Lined (Unit {0})

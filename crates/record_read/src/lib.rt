@@ -3,6 +3,7 @@
 
 mod blocks;
 mod front;
+mod head;
 mod lines;
 mod reading;
 

@@ -1,20 +1,24 @@
 // A refused line, and lines that are judged by their form and then by their meaning.
-ghost use Rattle.std.specs.Prelude.{◌≡◌, ◌≤◌, length};
+ghost use Rattle.std.specs.Prelude.{◌≡◌, ◌≤◌};
 ghost use Rattle.depth_table.specs.Table.{most_values};
-ghost use Rattle.pattern.specs.Refusal.{refusal_in};
+ghost use Rattle.arith.specs.Checks.{answer};
+ghost use Rattle.pattern.specs.Refusal.{told};
 ghost use Rattle.record_text.specs.Parsed.{exactly};
 ghost use Rattle.record_text.specs.Line.{size_line, value_line};
 ghost use Rattle.record_text.specs.Lines.{line as judged_line, no_meaning, read};
 ghost use Rattle.record_text.specs.Told.{title_text};
 ghost use Rattle.record_file.specs.Reading.{size_meaning, value_meaning, value_lines};
-ghost use Rattle.record_read.specs.Told.{lined, lined_by, text_lined};
+ghost use Rattle.record_read.specs.Told.{lined, lined_by, head_fields, head_lined, text_lined};
 
+use crate::head::Head;
+use arrayvec::ArrayVec;
 use depth_table::VALUES;
 use pattern::{Refusal, check, texture_ok};
 use record_text::{SizeFields, Title, read_size_line, read_title, read_value_line};
-use sheet::check_sides;
+use sheet::Sheet;
 
-// A refusal and the line that it is given for, counted from 1; 0 where no line is read.
+// A refusal and the line that it is given for, counted from 1. It is 0 where no line is read, as it is shown to people and to C, so that an
+// `Option` would only be made a 0 again.
 #[derive(Clone, Copy)]
 pub struct LineRefusal {
     pub refusal: Refusal,
@@ -38,28 +42,26 @@ pub(crate) fn title_line(bytes: &[u8], title: Title, line: u32) -> Result<&[u8],
     read_title(bytes, title).ok_or(bad_form(line))
 }
 
-// What is refused of the size line's numbers, where texture of so many samples is lent.
-#[tactic(auto, using(crate::proofs::ReadLaws::size_sides, crate::proofs::ReadLaws::size_rest))]
-fn check_size(size: SizeFields, texture: usize) -> Result<(), Refusal>
-    ensures { refusal_in result ≡ size_meaning texture size }
+// What the size line's numbers say, or what is refused of them, where texture of so many samples is lent.
+#[tactic(auto, using(crate::proofs::ReadLaws::head_refused, crate::proofs::ReadLaws::head_empty))]
+fn new_head(size: SizeFields, texture: usize) -> Result<Head, Refusal>
+    ensures { told head_fields result ≡ answer (size_meaning texture size) size }
 {
-    check_sides(size.n, size.width, size.height)?;
-    let area = size.width as usize * size.height as usize;
-    check(texture_ok(texture, area), Refusal::Length)?;
-    check(
-        1 <= size.values && size.values as usize <= VALUES,
-        Refusal::Table,
-    )
+    let sheet = Sheet::new(size.n, size.width, size.height)?;
+    check(texture_ok(texture, sheet.area()), Refusal::Length)?;
+    let values = size.values;
+    check(1 <= values && values as usize <= VALUES, Refusal::Table)?;
+    Ok(Head { sheet, values })
 }
 
 // The size line.
-pub(crate) fn size_line(bytes: &[u8], texture: usize) -> Result<(SizeFields, &[u8]), LineRefusal>
-    ensures { lined result ≡ judged_line 2 (size_line bytes.now) (size_meaning texture) read }
+pub(crate) fn size_line(bytes: &[u8], texture: usize) -> Result<(Head, &[u8]), LineRefusal>
+    ensures { head_lined result ≡ judged_line 2 (size_line bytes.now) (size_meaning texture) read }
 {
     let line = 2;
     let (size, rest) = read_size_line(bytes).ok_or(bad_form(line))?;
-    check_size(size, texture).map_err(|refusal| LineRefusal { refusal, line })?;
-    Ok((size, rest))
+    let head = new_head(size, texture).map_err(|refusal| LineRefusal { refusal, line })?;
+    Ok((head, rest))
 }
 
 // The line of a table value that is to be at least `low`.
@@ -75,18 +77,22 @@ pub(crate) fn value_line(bytes: &[u8], low: u32, line: u32) -> Result<(u8, &[u8]
     Ok((value as u8, rest))
 }
 
-// The lines of a table's values, from line 4 on, one for each place; the bytes after them.
-pub(crate) fn read_values<'a>(bytes: &'a [u8], table: &mut [u8]) -> Result<&'a [u8], LineRefusal>
-    requires { length table.old ≤ most_values }
-    ensures { lined_by (λ _. table.new) (λ rest. rest.now) result ≡ value_lines (length table.old) 4 bytes.now }
+// The lines of a table's values, from line 4 on, and the bytes after them. The loop counts the lines, since a refusal names its own.
+pub(crate) fn read_values(
+    bytes: &[u8],
+    values: u32,
+) -> Result<(ArrayVec<u8, VALUES>, &[u8]), LineRefusal>
+    requires { values ≤ most_values }
+    ensures { lined_by (λ p. p.0.items) (λ p. p.1.now) result ≡ value_lines values 4 bytes.now }
 {
+    let mut table = ArrayVec::new();
     let mut rest = bytes;
     let mut low = 0;
-    for (i, place) in table.iter_mut().enumerate() {
-        let (value, after) = value_line(rest, low, 4 + i as u32)?;
-        *place = value;
+    for i in 0..values {
+        let (value, after) = value_line(rest, low, 4 + i)?;
+        table.push(value);
         low = u32::from(value) + 1;
         rest = after;
     }
-    Ok(rest)
+    Ok((table, rest))
 }

@@ -7,6 +7,7 @@ ghost use Rattle.record_read.specs.Step.{FrontSound, Counted, HasRoom, sheet_lin
 use crate::blocks::{Reading, read_blocks};
 use crate::front::{Front, read_front};
 use crate::lines::LineRefusal;
+use arrayvec::ArrayVec;
 use depth_table::VALUES;
 use pattern::{GREATEST_SIZE, Refusal};
 use record_file::ReadInput;
@@ -18,12 +19,11 @@ const SMALL_SAMPLES: usize = 1024;
 // The most blocks that it has: a block has at least 16 samples.
 const SMALL_BLOCKS: usize = 64;
 
-// What reading answers: the finished state, and the table with its count. The table is an array beside a count: there is no heap.
-#[derive(Clone, Copy)]
+// What reading answers: the finished state, and the table.
+#[derive(Clone, Drop)]
 pub struct FileBack {
     pub sheet: Sheet,
-    pub values: u32,
-    pub table: [u8; VALUES],
+    pub table: ArrayVec<u8, VALUES>,
 }
 
 // Whether each list's count is one that its whole patterns allow.
@@ -59,16 +59,16 @@ fn read_with<const SAMPLES: usize, const BLOCKS: usize>(
 {
     let mut drawn = [0u8; SAMPLES];
     let mut kept = [[0i32; 4]; BLOCKS];
-    let area = front.area();
+    let area = front.sheet.area();
     let blocks = front.sheet.blocks() as usize;
     let place = PlaceInput {
         list: input.list_for(front.sheet.n as usize),
-        table: &front.table[..front.values as usize],
+        table: front.table.as_slice(),
         texture: input.texture,
     };
     let from = Reading {
         rest: front.rest,
-        line: 5 + front.values,
+        line: 5 + front.table.len() as u32,
         sheet: front.sheet,
     };
     let sheet = read_blocks(from, &mut drawn[..area], place, &mut kept[..blocks])?;
@@ -76,7 +76,6 @@ fn read_with<const SAMPLES: usize, const BLOCKS: usize>(
     records[..blocks].copy_from_slice(&kept[..blocks]);
     Ok(FileBack {
         sheet,
-        values: front.values,
         table: front.table,
     })
 }
@@ -101,7 +100,7 @@ pub fn read(
     }
     let front = read_front(bytes, input.texture.len())?;
     // The arrays are cleared for each file, so a small sheet has short ones.
-    if front.area() <= SMALL_SAMPLES {
+    if front.sheet.area() <= SMALL_SAMPLES {
         read_with::<SMALL_SAMPLES, SMALL_BLOCKS>(front, input, samples, records)
     } else {
         read_with::<MOST_SAMPLES, MOST_BLOCKS>(front, input, samples, records)

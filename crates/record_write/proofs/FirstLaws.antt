@@ -1,7 +1,7 @@
 -- The first refusal of the records, as the code looks for it.
 use Prim.Native.Nat.{ℕ, zero, suc, ◌+◌, ◌≤◌, ◌<◌}
 use mathlib.Core.Path.{◌≡◌, refl, sym, ◌∙◌, ap}
-use mathlib.Core.Bool.{true, cond}
+use mathlib.Core.Bool.{Bool, true, cond}
 use mathlib.Core.List.{List}
 use mathlib.Core.Logic.{⊎_elim}
 use lib.ListN.{length}
@@ -34,13 +34,12 @@ first_step n l count values records i =
     turn (suc x) y = rw (ne_eqb (suc x) 0 (λ e. omega arith))
 
 -- a record that means nothing has the number of its refusal, and one that means something has none
-pub record_refused :
-    (n : ℕ) (l : List ℕ) (count values : ℕ) (r : Record) (k : ℕ) → refused k ≡ record_meaning n l count true values r → k ≡ written_refusal n l count values r
-record_refused n l count values r k e = (meaning-refused n l count true values r e).0
+module _ (n : ℕ) (l : List ℕ) (count : ℕ) {lent : Bool} (values : ℕ) (r : Record) (t : lent ≡ true) where
+  pub record_refused : (k : ℕ) → refused k ≡ record_meaning n l count lent values r → k ≡ written_refusal n l count values r
+  record_refused k e = (meaning-refused n l count true values r (rw t at e)).0
 
-pub record_given :
-    (n : ℕ) (l : List ℕ) (count values : ℕ) (r : Record) {m : Named} → given m ≡ record_meaning n l count true values r → 0 ≡ written_refusal n l count values r
-record_given n l count values r e = sym (meaning-given n l count true values r e).0
+  pub record_given : {m : Named} → given m ≡ record_meaning n l count lent values r → 0 ≡ written_refusal n l count values r
+  record_given e = sym (meaning-given n l count true values r (rw t at e)).0
 
 first-same : (x y : ℕ) → 1 ≤ x → x ≡ first x y
 first-same zero y e = absurd (omega arith)

@@ -1,5 +1,5 @@
 // What is checked of a sheet that is written.
-ghost use Rattle.std.specs.Prelude.{◌≡◌, ℕ, leb, length};
+ghost use Rattle.std.specs.Prelude.{◌≡◌, ℕ, true, leb, length};
 ghost use Rattle.arith.specs.Checks.{refusal};
 ghost use Rattle.pattern.specs.Refusal.{refusal_in};
 ghost use Rattle.pattern.specs.Words.{whole_patterns, patterns_of};
@@ -8,7 +8,7 @@ ghost use Rattle.record_file.specs.Writing.{first_to, space_for, write_lengths_o
 
 use depth_table::is_table;
 use pattern::{PatternList, Refusal, check};
-use record::{Record, meaning_of};
+use record::{Record, Setting};
 use sheet::Sheet;
 
 // Whether there are 80 + 4 * values + 32 * blocks bytes, in numbers so wide that none of them wraps.
@@ -44,28 +44,26 @@ pub(crate) fn check_sheet(
     check(is_table(table), Refusal::Table)
 }
 
-// What is refused of a record, where the table has so many values; no texture is asked for.
+// What is refused of a record, where no texture is asked for.
 #[tactic(auto, using(crate::proofs::FirstLaws::record_refused, crate::proofs::FirstLaws::record_given))]
-fn check_record(n: usize, list: PatternList, values: usize, r: Record) -> Result<(), Refusal>
-    ensures { let L = list.entry in refusal_in result ≡ written_refusal n (patterns_of n L.words.now) L.count values r }
+fn check_record(setting: Setting, r: Record) -> Result<(), Refusal>
+    requires { setting.textured ≡ true }
+    ensures { let S = setting.entry in
+        refusal_in result ≡ written_refusal S.n (patterns_of S.n S.list.words.now) S.list.count S.values r }
 {
-    meaning_of(n, list, true, values, r).map(|_| ())
+    setting.meaning_of(r).map(|_| ())
 }
 
 // What is refused of records: the refusal of the first bad one.
 #[tactic(auto, using(crate::proofs::FirstLaws::in_order))]
-pub(crate) fn check_records(
-    n: usize,
-    list: PatternList,
-    values: usize,
-    records: &[[i32; 4]],
-) -> Result<(), Refusal>
-    ensures { let L = list.entry in
-        let judged : ℕ → ℕ = λ i. written_refusal n (patterns_of n L.words.now) L.count values (record_at records.now i) in
+pub(crate) fn check_records(setting: Setting, records: &[[i32; 4]]) -> Result<(), Refusal>
+    requires { setting.textured ≡ true }
+    ensures { let S = setting.entry in
+        let judged : ℕ → ℕ = λ i. written_refusal S.n (patterns_of S.n S.list.words.now) S.list.count S.values (record_at records.now i) in
         refusal_in result ≡ first_to judged (length records.now) }
 {
     for r in records {
-        check_record(n, list, values, Record::from(*r))?;
+        check_record(setting, Record::from(*r))?;
     }
     Ok(())
 }

@@ -12,12 +12,13 @@ ghost use Rattle.record_file.specs.Writing.{space_for, Small, HeadFits, source_o
 
 use crate::checks::{check_records, check_sheet};
 use pattern::{PatternList, Refusal};
-use record::Record;
+use record::{Record, Setting};
 use record_print::{Cursor, put_record_line, put_size_line, put_title, put_value_line};
 use record_text::{SizeFields, Title};
 use sheet::Sheet;
 
-// The lines of the table values; the place after them.
+// The lines of the table values; the place after them. The records have a loop of their own: the contract of one loop over a closure would
+// be longer, on what each call of the closure writes for every text of an item, and each caller would prove which items are printed.
 fn put_values(out: &mut [u8], from: Cursor, table: &[u8]) -> Cursor
     requires { from.at + 4 * length table.now ≤ length out.old }
     ensures { Written out.old out.new from.at (texts value_text table.now) result.at }
@@ -92,6 +93,12 @@ pub fn write(
 {
     check_sheet(sheet, list, table, records.len(), out.len())?;
     let placed = &records[..sheet.blocks() as usize];
-    check_records(sheet.n as usize, list, table.len(), placed)?;
+    let setting = Setting {
+        n: sheet.n as usize,
+        list,
+        textured: true,
+        values: table.len(),
+    };
+    check_records(setting, placed)?;
     Ok(put_file(out, sheet, table, placed))
 }

@@ -8,7 +8,7 @@ use std::io;
 use std::io::Read;
 
 // Reads until the slice is full or the input ends; the number of bytes read. A loop, since std fills a slice only where the input has as
-// many bytes.
+// many bytes. Each program has its own: a shared one is public, and what a generic `Read` gives has no definition to promise by.
 fn read_full(input: &mut impl Read, buf: &mut [u8]) -> io::Result<usize>
     ensures { IfOk result (λ n. n ≤ length buf.new) }
 {

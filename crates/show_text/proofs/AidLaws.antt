@@ -9,8 +9,9 @@ use borrow.Author.Tests.{le-leb}
 use lib.Dec.{eqb}
 use lib.ListN.{length, take, drop, length-append}
 use lib.Seq.{take_at}
-use Rattle.std.specs.Result.{result_unwrap_or}
+use Rattle.std.specs.Result.{result_ok}
 use Rattle.std.proofs.Common.{Result, Ok, Err}
+use Rattle.std.specs.Prelude.{Some, None}
 use Rattle.pattern.specs.declared.refusals.Refusal.{Refusal}
 use Rattle.pattern.specs.Refusal.{number_of, told}
 use Rattle.arith.specs.Checks.{refused, given}
@@ -23,7 +24,7 @@ use Rattle.wedgelet.specs.Wedgelet.{wedgelet_list}
 use Rattle.wedgelet.specs.Answer.{needed_words, most_words, list_refusal, list_answer, list_after}
 use Rattle.wedgelet.proofs.AnswerLaws.{words-enough}
 use Rattle.show_text.specs.Showing.{aids_alone, aids_for}
-use Rattle.show_text.specs.Steps.{Listing}
+use Rattle.show_text.specs.Steps.{Listing, no_aids}
 
 -- ---- the list
 
@@ -49,21 +50,29 @@ module _ (n : ℕ) (old new : List ℕ) (enough : most_words ≤ length old) (af
       }
 
   -- or refused, which is the size's fault
-  list-refused : (number : ℕ) → refused number ≡ list_answer n old → Listing n new 0
+  list-refused : (number : ℕ) → refused number ≡ list_answer n old → no_aids ≡ aids_for n
   unfolding list_answer list_refusal aids_for
   list-refused number e =
       let g = refused-means (list_refusal n (length old)) number (length (wedgelet_list n)) (sym e) in
-      let none : words_of n * 0 ≡ 0 = omega arith in
-      record { inside = omega arith; whole = rw none; aids = go (size_ok n) refl g.1 }
+      go (size_ok n) refl g.1
     where
-      go : (b : Bool) → size_ok n ≡ b → (list_refusal n (length old) ≡ 0 → ⊥) → aids_alone n (take (words_of n * 0) new) 0 ≡ aids_for n
+      go : (b : Bool) → size_ok n ≡ b → (list_refusal n (length old) ≡ 0 → ⊥) → no_aids ≡ aids_for n
       go true e z = absurd (z (rw (e, le-leb (needed_words n) (length old) (le_trans (words-enough n e) enough))))
       go false e z =
           let a = neither-of (eqb n 4) (eqb n 8 || eqb n 16) e in
           let b = neither-of (eqb n 8) (eqb n 16) a.1 in
           rw (a.0, b.0, b.1)
 
-  -- so the list for the size is there, with none where it was refused
-  pub list-lent : (r : Result ℕ Refusal) → told (λ count. count) r ≡ list_answer n old → Listing n new (result_unwrap_or r 0)
-  list-lent (Ok count) e = list-built count e
-  list-lent (Err q) e = list-refused (number_of q) e
+  -- so the list for the size is there, or there is none
+  pub list-lent : (r : Result ℕ Refusal) (count : ℕ) → told (λ count. count) r ≡ list_answer n old → result_ok r ≡ Some count → Listing n new count
+  list-lent (Ok k) count e q = list-built count (cc)
+  list-lent (Err x) count e q = cc
+
+  pub list-none : (r : Result ℕ Refusal) → told (λ count. count) r ≡ list_answer n old → result_ok r ≡ None → no_aids ≡ aids_for n
+  list-none (Ok k) e q = cc
+  list-none (Err x) e q = list-refused (number_of x) e
+
+-- a file without a size has none
+pub none-for : no_aids ≡ aids_for 0
+unfolding aids_for
+none-for = refl

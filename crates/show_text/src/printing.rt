@@ -31,7 +31,8 @@ fn put_sides(out: &mut [u8], width: u32, height: u32) -> Cursor
     put_title(out, sides, Title::Depth)
 }
 
-// The sample rows; the place after them.
+// The sample rows; the place after them. The samples are numbered through in one loop: with `chunks_exact` a second function would have
+// to print a row, and its last sample would still be told from the others by its number.
 fn put_rows(out: &mut [u8], from: Cursor, width: usize, height: usize, samples: &[u8]) -> Cursor
     requires samples_held { (width * height ≤ most_samples) × (width * height ≤ length samples.now) }
     requires has_room { from.at + 4 * (width * height) ≤ length out.old }
@@ -68,6 +69,6 @@ pub(crate) fn put_refusal(out: &mut [u8], refused: LineRefusal) -> usize
     ensures { Written out.old out.new 0 (refusal_text (number_of refused.refusal) refused.line) result }
 {
     let title = put_text(out, Cursor { at: 0 }, b"refusal line\n");
-    let number = u32::from(u8::from(refused.refusal));
+    let number = u32::from(refused.refusal);
     put_pair(out, title, number, refused.line).at
 }

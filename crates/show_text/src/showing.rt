@@ -3,7 +3,8 @@ ghost use Rattle.std.specs.Prelude.{◌≡◌, ◌≤◌, length, unwrap_or};
 ghost use Rattle.pattern.specs.Refusal.{told};
 ghost use Rattle.record_print.specs.Put.{Written};
 ghost use Rattle.record_file.specs.Reading.{aids_in};
-ghost use Rattle.show_text.specs.Showing.{size_in, aids_alone, aids_for, text_by, read_with, text_bytes, show_answer, show_after};
+ghost use Rattle.show_text.specs.Steps.{aids_by};
+ghost use Rattle.show_text.specs.Showing.{size_in, aids_for, text_by, read_with, text_bytes, show_answer, show_after};
 
 use crate::printing::{put_refusal, put_sheet};
 use depth_table::VALUES;
@@ -21,28 +22,30 @@ pub const TEXT_BYTES: usize = 27 + 4 * MOST_SAMPLES;
 
 // The size in a file: n of line 2 where lines 1 and 2 have their form.
 #[tactic(auto, unfolding(crate::specs::Showing::size_in))]
-fn size_in(bytes: &[u8]) -> Option<u32>
+fn size_in(bytes: &[u8]) -> Option<usize>
     ensures { unwrap_or result 0 ≡ size_in bytes.now }
 {
     let rest = read_title(bytes, Title::Size)?;
     let (size, _) = read_size_line(rest)?;
-    Some(size.n)
+    Some(size.n as usize)
 }
 
-// The wedgelet list for n, in the first of the words; no pattern where n is not allowed.
-fn build_list(n: usize, words: &mut [u64; LIST_WORDS]) -> PatternList
-    ensures { aids_alone n result.words.now result.count ≡ aids_for n }
+// The size in a file and the wedgelet list for it, in the first of the words; none where the file names no size that is allowed.
+fn build_list<'a>(
+    bytes: &[u8],
+    words: &'a mut [u64; LIST_WORDS],
+) -> Option<(usize, PatternList<'a>)>
+    ensures { aids_by result ≡ aids_for (size_in bytes.now) }
 {
-    let count = wedgelet::wedgelets(n, words).unwrap_or(0);
-    PatternList {
-        words: &words[..words_of(n) * count],
-        count,
-    }
+    let n = size_in(bytes)?;
+    let count = wedgelet::wedgelets(n, words).ok()?;
+    let words = &words[..words_of(n) * count];
+    Some((n, PatternList { words, count }))
 }
 
-// What a file is read with where there is a list for size n alone, with none for the other sizes and no texture.
-fn with_one_list<'a>(n: usize, list: PatternList<'a>) -> ReadInput<'a>
-    ensures { let L = list.entry in aids_in result ≡ aids_alone n L.words.now L.count }
+// What a file is read with where there is a list for its size alone, with none for the other sizes and no texture.
+fn with_list<'a>(list: Option<(usize, PatternList<'a>)>) -> ReadInput<'a>
+    ensures { aids_in result ≡ aids_by list.entry }
 {
     let none = PatternList {
         words: &[],
@@ -54,16 +57,16 @@ fn with_one_list<'a>(n: usize, list: PatternList<'a>) -> ReadInput<'a>
         list16: none,
         texture: b"",
     };
-    match n {
-        4 => ReadInput {
+    match list {
+        Some((4, list)) => ReadInput {
             list4: list,
             ..input
         },
-        8 => ReadInput {
+        Some((8, list)) => ReadInput {
             list8: list,
             ..input
         },
-        GREATEST_SIZE => ReadInput {
+        Some((GREATEST_SIZE, list)) => ReadInput {
             list16: list,
             ..input
         },
@@ -91,8 +94,7 @@ pub fn show_text(bytes: &[u8], out: &mut [u8]) -> Result<usize, Refusal>
     ensures left { out.new ≡ show_after bytes.now out.old }
 {
     pattern::check(TEXT_BYTES <= out.len(), Refusal::Length)?;
-    let n = size_in(bytes).unwrap_or(0) as usize;
     let mut words = [0u64; LIST_WORDS];
-    let list = build_list(n, &mut words);
-    Ok(put_read(bytes, with_one_list(n, list), out))
+    let list = build_list(bytes, &mut words);
+    Ok(put_read(bytes, with_list(list), out))
 }

@@ -2,19 +2,18 @@
 use Rattle.std.proofs.Common.{refl, rules}
 use Rattle.std.proofs.lemmas.Result.{err_from_is_err_and}
 use Rattle.record_file.specs.Reading.{aids_in}
-use Rattle.sheet.specs.State.{blocks_of}
+use Rattle.sheet.specs.State.{area, blocks_of}
 use Rattle.record_read.specs.Back.{lent_of}
-use Rattle.record_read.specs.Step.{area_of}
-use Rattle.record_read.proofs.BackLaws.{lends_in, begun, rest-refused, rest-read, all-refused, places-in}
+use Rattle.record_read.proofs.BackLaws.{begun_line, lends_in, begun, rest-refused, rest-read, all-refused, places-in}
 use Rattle.record_read.proofs.reading.read_with.Goals as goal
 
 pub read_blocks-requires : goal.read_blocks-requires
 read_blocks-requires g c =
     let a = c.args in
     begun (aids_in a.input) a.front c.requires.sound _
-    (lends_in a.input a.front _ c.list_for.ensures.words c.list_for.ensures.count refl refl)
-    c.requires.counted
-    (places-in 0 c.area-area.result (area_of a.front) g.row.SAMPLES c.area-area.ensures c.requires.has_room.samples_inside)
+    (lends_in a.input a.front _ c.list_for.ensures.words c.list_for.ensures.count c.as_slice.ensures.value refl)
+    (begun_line a.front c.len.result c.len.ensures.value) c.requires.counted
+    (places-in 0 c.area-area.result (area a.front.sheet) g.row.SAMPLES c.area-area.ensures c.requires.has_room.samples_inside)
     (places-in _ c.blocks-blocks.result (blocks_of a.front.sheet) g.row.BLOCKS c.blocks-blocks.ensures c.requires.has_room.records_in)
 
 pub returns-in_err-sheet : goal.returns-in_err-sheet
@@ -24,14 +23,15 @@ returns-in_err-sheet g c =
     rw (q.1, q.2)
     (all-refused (aids_in a.input) (lent_of a.samples.now a.records.now)
     (rest-refused (aids_in a.input) a.front c.requires.sound _
-    (lends_in a.input a.front _ c.list_for.ensures.words c.list_for.ensures.count refl refl)
-    c.in_err-sheet.ensures))
+    (lends_in a.input a.front _ c.list_for.ensures.words c.list_for.ensures.count c.as_slice.ensures.value refl)
+    (begun_line a.front c.len.result c.len.ensures.value) c.in_err-sheet.ensures))
 
 pub returns : goal.returns
 returns g c =
     let a = c.args in
-    let drawn = places-in 0 c.area-area.result (area_of a.front) g.row.SAMPLES c.area-area.ensures c.requires.has_room.samples_inside in
+    let drawn = places-in 0 c.area-area.result (area a.front.sheet) g.row.SAMPLES c.area-area.ensures c.requires.has_room.samples_inside in
     rest-read (aids_in a.input) a.front c.requires.sound _
-    (lends_in a.input a.front _ c.list_for.ensures.words c.list_for.ensures.count refl refl)
-    _ _ (lent_of a.samples.now a.records.now) c.in_ok-sheet.ensures drawn (search rules) (search rules)
+    (lends_in a.input a.front _ c.list_for.ensures.words c.list_for.ensures.count c.as_slice.ensures.value refl)
+    _ _ (lent_of a.samples.now a.records.now) (begun_line a.front c.len.result c.len.ensures.value) c.in_ok-sheet.ensures drawn
+    (search rules) (search rules)
     c.area-area.ensures c.blocks-blocks.ensures c.copy_from_slice.ensures.after c.copy_from_slice-2.ensures.after

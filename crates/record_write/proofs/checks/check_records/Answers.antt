@@ -6,4 +6,4 @@ use Rattle.record_write.proofs.checks.check_records.Goals as goal
 pub loop-r-init : goal.loop-r-init
 loop-r-init c =
     let a = c.args in
-    first_none a.n (patterns_of a.n a.list.words.now) a.list.count a.values a.records.now
+    first_none a.setting.n (patterns_of a.setting.n a.setting.list.words.now) a.setting.list.count a.setting.values a.records.now

@@ -7,4 +7,4 @@ use Rattle.record_write.proofs.checks.check_records.Given as goal
 
 abbrev pub invariant-loop-r : goal.invariant-loop-r
 invariant-loop-r l =
-    first_to (λ i. written_refusal l.n (patterns_of l.n l.list.words.now) l.list.count l.values (record_at l.records i)) l.r-index ≡ 0
+    let S = l.setting in first_to (λ i. written_refusal S.n (patterns_of S.n S.list.words.now) S.list.count S.values (record_at l.records i)) l.r-index ≡ 0

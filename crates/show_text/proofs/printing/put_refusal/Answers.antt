@@ -6,5 +6,5 @@ use Rattle.show_text.proofs.printing.put_refusal.Goals as goal
 pub returns : goal.returns
 unfolding refusal_title
 returns c =
-    rw (← c.from.ensures, ← c.from-number.ensures)
+    rw (← c.from-number.ensures)
     (refusal-written _ _ (title-written refusal_title c.args.out.now c.requires.1 c.put_text-title.ensures) c.put_pair.ensures)
