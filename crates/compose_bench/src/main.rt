@@ -2,7 +2,7 @@
 // blocks of 4 or 16 where the next byte is 4 or 6, else of 8. It prints the side and the number of records written.
 #![tactic(auto)]
 
-ghost use Rattle.std.specs.Prelude.{◌≤◌};
+ghost use Rattle.std.specs.Prelude.{◌≤◌, length, IfOk};
 
 use pattern::{PatternList, Refusal};
 use sheet::{ComposeInput, MOST_BLOCKS, MOST_SAMPLES, PlaceInput, Sheet};
@@ -10,8 +10,12 @@ use std::io;
 use std::io::Read;
 use wedgelet::LIST_WORDS;
 
-// Reads until the slice is full or the input ends. A loop, since std fills a slice only where the input has as many bytes.
-fn read_full(input: &mut impl Read, buf: &mut [u8]) -> io::Result<()> {
+// Reads until the slice is full or the input ends; the number of bytes read. A loop, since std fills a slice only where the input has as
+// many bytes. `show` and `vectors` have such a loop too: a shared one would be a public function of a library, and what a reader gives has
+// no definition of which bytes, that a contract could state.
+fn read_full(input: &mut impl Read, buf: &mut [u8]) -> io::Result<usize>
+    ensures { IfOk result (λ n. n ≤ length buf.new) }
+{
     let mut done = 0;
     while done < buf.len() {
         let read = input.read(&mut buf[done..])?;
@@ -20,29 +24,14 @@ fn read_full(input: &mut impl Read, buf: &mut [u8]) -> io::Result<()> {
         }
         done += read;
     }
-    Ok(())
+    Ok(done)
 }
 
-// The first two bytes of standard input; 0 for those that it does not have.
-fn asked(rt: &impl Input) -> io::Result<[u8; 2]> {
-    let mut bytes = [0u8; 2];
-    read_full(&mut rt.reader(), &mut bytes)?;
-    Ok(bytes)
-}
-
-// The side that a byte asks for.
-fn side(byte: u8) -> u32 {
+// The block size that the second byte asks for.
+fn size(byte: Option<&u8>) -> u32 {
     match byte {
-        b'8' => 128,
-        _ => 64,
-    }
-}
-
-// The block size that a byte asks for.
-fn size(byte: u8) -> u32 {
-    match byte {
-        b'4' => 4,
-        b'6' => 16,
+        Some(b'4') => 4,
+        Some(b'6') => 16,
         _ => 8,
     }
 }
@@ -52,9 +41,10 @@ fn table() -> [u8; 256] {
     std::array::from_fn(|value| value as u8)
 }
 
-// Original samples that fall into no pattern.
-fn original() -> [u8; MOST_SAMPLES] {
-    let mut out = [0u8; MOST_SAMPLES];
+// Original samples that fall into no pattern. `vectors` makes such samples too: a shared generator would be a public function of a library
+// for tests alone.
+fn original<const AREA: usize>() -> [u8; AREA] {
+    let mut out = [0u8; AREA];
     let mut state: u64 = 1;
     for sample in out.iter_mut() {
         state = (state % 2147483648 * 1103515245 + 12345) % 2147483648;
@@ -63,39 +53,47 @@ fn original() -> [u8; MOST_SAMPLES] {
     out
 }
 
-// Composes a new sheet of so many samples, in blocks of n; the number of records written.
-fn written(n: u32, side: u32, area: usize) -> Result<usize, Refusal>
-    requires { area ≤ 16384 }
+// Composes a new sheet of AREA samples, as wide as high, in blocks of n; the number of records written.
+fn written<const AREA: usize>(n: u32, side: u32) -> Result<usize, Refusal>
+    requires { AREA ≤ 16384 }
 {
     let sheet = Sheet::new(n, side, side)?;
     let mut words = [0u64; LIST_WORDS];
     let count = wedgelet::wedgelets(n as usize, &mut words)?;
-    let mut samples = [0u8; MOST_SAMPLES];
+    let mut samples = [0u8; AREA];
     let mut records = [[0i32; 4]; MOST_BLOCKS];
-    let picture = original();
-    let values = table();
     let list = PatternList {
         words: &words,
         count,
     };
     let place = PlaceInput {
         list,
-        table: &values,
+        table: &table(),
         texture: b"",
     };
     let input = ComposeInput {
         place,
-        original: &picture[..area],
+        original: &original::<AREA>(),
         reach: 5,
     };
-    let composed = sheet.compose(&mut samples[..area], input, &mut records)?;
+    let composed = sheet.compose(&mut samples, input, &mut records)?;
     Ok(composed.written)
 }
 
 fn main(rt: HostRuntime) -> io::Result<()> {
-    let [first, second] = asked(&rt)?;
-    let side = side(first);
-    let area = if side == 128 { MOST_SAMPLES } else { 4096 };
-    let count = written(size(second), side, area).unwrap_or(0);
-    println!(rt; "{side} {count}")
+    let mut bytes = [0u8; 2];
+    let read = read_full(&mut rt.reader(), &mut bytes)?;
+    let asked = &bytes[..read];
+    let n = size(asked.get(1));
+    let (side, written) = match asked.first() {
+        Some(b'8') => (128, written::<MOST_SAMPLES>(n, 128)),
+        _ => (64, written::<4096>(n, 64)),
+    };
+    match written {
+        Ok(count) => println!(rt; "{side} {count}"),
+        Err(refusal) => {
+            let number = u8::from(refusal);
+            println!(rt; "{side} refused {number}")
+        }
+    }
 }

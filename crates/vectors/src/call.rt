@@ -19,7 +19,7 @@ pub(crate) enum Call {
 }
 
 // The slices of a case that its call only reads. The list and the samples, to which a call can write, stand beside them: a call that is
-// given a struct with such slices and passes it on has no proof.
+// given a struct with such slices needs a clause that they still are the same ones.
 #[derive(Clone, Copy)]
 pub(crate) struct Lent<'a> {
     pub(crate) border: &'a [u8],
@@ -29,21 +29,19 @@ pub(crate) struct Lent<'a> {
 }
 
 impl Call {
-    // The call that a line names: no other has its first and third letter.
-    pub(crate) fn named(line: &[u8]) -> Option<Call> {
-        let first = line.first()?;
-        let third = line.get(2)?;
-        match (*first, *third) {
-            (b'i', b'd') => Some(Call::Index),
-            (b'm', b'r') => Some(Call::Marks),
-            (b'c', b'n') => Some(Call::Contour),
-            (b'w', b'd') => Some(Call::Wedgelets),
-            (b's', b'd') => Some(Call::Sides),
-            (b'p', b'e') => Some(Call::Predict),
-            (b'c', b'o') => Some(Call::Choose),
-            (b'n', b'w') => Some(Call::New),
-            (b'p', b'a') => Some(Call::Place),
-            (b'c', b'm') => Some(Call::Compose),
+    // The call that a word names.
+    pub(crate) fn named(word: &[u8]) -> Option<Call> {
+        match word {
+            b"index" => Some(Call::Index),
+            b"marks" => Some(Call::Marks),
+            b"contour" => Some(Call::Contour),
+            b"wedgelets" => Some(Call::Wedgelets),
+            b"sides" => Some(Call::Sides),
+            b"predict" => Some(Call::Predict),
+            b"choose" => Some(Call::Choose),
+            b"new" => Some(Call::New),
+            b"place" => Some(Call::Place),
+            b"compose" => Some(Call::Compose),
             _ => None,
         }
     }

@@ -1,15 +1,13 @@
 // The fields of a case: the numbers of its line, and the slices that they give. What is missing in a line is read as 0 or as an empty
 // slice.
-ghost use Rattle.std.specs.Prelude.{◌≤◌, length};
-
 use crate::reader;
 use crate::reader::Field;
 
 // As many numbers and bars of a line are read.
 const NUMBERS: usize = 4080;
 
-// The numbers of a line, 0 at a bar, and the place after the bar of each letter, by the letter's last four bits: l, n, o, r, s, t and x
-// differ in them.
+// The numbers of a line, 0 at a bar, and the place after the bar of each letter, in an array by the letter's last four bits, in which
+// l, n, o, r, s, t and x differ: a map of std is on the heap, which the project does not use.
 #[derive(Drop)]
 pub(crate) struct Fields {
     numbers: [u64; NUMBERS],
@@ -30,7 +28,7 @@ impl<'a> Numbers<'a> {
         }
     }
 
-    // Number k.
+    // Number k, 0 where the line has none.
     pub(crate) fn number(self, k: usize) -> u64 {
         self.numbers.get(k).copied().unwrap_or(0)
     }
@@ -40,12 +38,13 @@ impl<'a> Numbers<'a> {
         self.number(k) as usize
     }
 
-    // Number k as a number of 32 bits.
+    // Number k as a number of 32 bits, what does not fit modulo 4294967296: `TryFrom` has no answer there.
     pub(crate) fn short(self, k: usize) -> u32 {
         (self.number(k) % 4294967296) as u32
     }
 
-    // Number k as a signed number.
+    // Number k as a signed number: below 65536 itself, else minus the magnitude of its negative, modulo 65536. `TryFrom` has no answer for
+    // greater ones.
     pub(crate) fn signed(self, k: usize) -> i32 {
         let value = self.number(k);
         if value < 65536 {
@@ -63,34 +62,32 @@ pub(crate) fn first<T>(s: &mut [T], k: usize) -> &mut [T] {
 
 // Samples that are given one by one.
 fn give(numbers: Numbers, out: &mut [u8]) {
-    for (i, sample) in out.iter_mut().enumerate() {
-        *sample = (numbers.number(i) % 256) as u8;
-    }
+    let mut given = numbers.numbers.iter();
+    out.fill_with(|| (given.next().copied().unwrap_or(0) % 256) as u8);
 }
 
-// Pseudo-random samples from a seed. A step is made before each.
+// Pseudo-random samples from a seed. A step is made before each. `compose_bench` makes such samples too: a shared generator would be a
+// public function of a library for tests alone.
 fn randomize(seed: u64, out: &mut [u8]) {
     let mut state = seed;
-    for sample in out.iter_mut() {
+    out.fill_with(|| {
         state = (state % 2147483648 * 1103515245 + 12345) % 2147483648;
-        *sample = (state / 65536 % 256) as u8;
-    }
+        (state / 65536 % 256) as u8
+    });
 }
 
 // Samples from a start on in steps of one width. A step is made before each.
 fn climb(start: u64, step: u64, out: &mut [u8]) {
     let mut state = start;
-    for sample in out.iter_mut() {
+    out.fill_with(|| {
         state = state % 2147483648 + step % 2147483648;
-        *sample = (state % 256) as u8;
-    }
+        (state % 256) as u8
+    });
 }
 
 impl Fields {
     // The fields that come first, one space before each, and the bytes after them; no bytes where a space has no field after it.
-    pub(crate) fn read(bytes: &[u8]) -> (Fields, &[u8])
-        ensures { length result.1.now ≤ length bytes.now }
-    {
+    pub(crate) fn read(bytes: &[u8]) -> (Fields, &[u8]) {
         let mut numbers = [0u64; NUMBERS];
         let mut bars = [None; 16];
         let mut rest = bytes;
@@ -120,12 +117,15 @@ impl Fields {
 
     // The numbers after the bar with a letter.
     pub(crate) fn after(&self, letter: u8) -> Numbers {
-        let place = self.bars[usize::from(letter % 16)];
-        self.line().skip(place.unwrap_or(NUMBERS))
+        match self.bars[usize::from(letter % 16)] {
+            Some(place) => self.line().skip(place),
+            None => Numbers { numbers: &[] },
+        }
     }
 
     // The slice of samples after the bar with a letter, made in the lent one: its length and a rule, then for rule 0 the samples, for rule
-    // 1 the seed, for rule 2 the start and the width of the steps. The rule's number is matched here, where it is read, and nowhere else.
+    // 1 the seed, for rule 2 the start and the width of the steps. A rule is a number, since an enum would be made of it and matched here
+    // alone.
     pub(crate) fn samples<'a>(&self, letter: u8, out: &'a mut [u8]) -> &'a mut [u8] {
         let numbers = self.after(letter);
         let made = first(out, numbers.size(0));
@@ -142,10 +142,8 @@ impl Fields {
     pub(crate) fn list<'a>(&self, out: &'a mut [u64]) -> &'a mut [u64] {
         let numbers = self.after(b'l');
         let _ = wedgelet::wedgelets(numbers.size(0), out);
-        let given = numbers.skip(3);
-        for (i, word) in first(out, numbers.size(2)).iter_mut().enumerate() {
-            *word = given.number(i);
-        }
+        let mut given = numbers.skip(3).numbers.iter();
+        first(out, numbers.size(2)).fill_with(|| given.next().copied().unwrap_or(0));
         first(out, numbers.size(1))
     }
 }

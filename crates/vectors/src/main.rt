@@ -2,8 +2,6 @@
 // form of the cases and of the answers. A line of another form ends the program with the line `bad case`.
 #![tactic(auto)]
 
-ghost use Rattle.std.specs.Prelude.{◌<◌, length, IfOk, IfSome};
-
 mod blocks;
 mod call;
 mod fields;
@@ -15,11 +13,12 @@ mod sheets;
 use call::{Call, Lent};
 use fields::Fields;
 use reader::TEXT;
+use sheet::MOST_SAMPLES;
 use std::io;
 use wedgelet::LIST_WORDS;
 
 // One sample more than the greatest sheet and the greatest block have, than a block has neighbours, and some values more than a table has.
-const SAMPLES: usize = 128 * 128 + 1;
+const SAMPLES: usize = MOST_SAMPLES + 1;
 
 const NEIGHBOURS: usize = pattern::NEIGHBOURS + 1;
 
@@ -44,44 +43,37 @@ fn answer(rt: &impl Print, call: Call, fields: &Fields) -> io::Result<()> {
     call.answer(rt, fields, list, samples, lent)
 }
 
-// Answers the case of the first line; the lines after it, none where it is no case.
-fn case<'a>(rt: &impl Print, lines: &'a [u8]) -> io::Result<Option<&'a [u8]>>
-    ensures { IfOk result (λ next. IfSome next (λ s. length s.now < length lines.now)) }
-{
-    let (word, after) = reader::split_digits(lines, 36);
+// Answers the case of a line, which ends in a line end; whether it is a case.
+fn case(rt: &impl Print, line: &[u8]) -> io::Result<bool> {
+    let (word, after) = reader::split_digits(line, 36);
     rt.write_all(word)?;
     let (fields, rest) = Fields::read(after);
-    let call = Call::named(lines);
+    let call = Call::named(word);
     if let Some(call) = call {
         answer(rt, call, &fields)?;
     }
     rt.write_all(b"\n")?;
-    match (call, rest.split_first()) {
-        (Some(_), Some((b'\n', next))) => Ok(Some(next)),
+    match (call, rest) {
+        (Some(_), b"\n") => Ok(true),
         _ => {
             rt.write_all(b"bad case\n")?;
-            Ok(None)
+            Ok(false)
         }
     }
 }
 
-// Answers the cases of a text; a byte 0 in place of a line ends it.
+// Answers the cases of a text, one a line, as far as the first line that is none.
 fn cases(rt: &impl Print, text: &[u8]) -> io::Result<()> {
-    let mut lines = text;
-    while let Some(first) = lines.first() {
-        if *first == 0 {
+    for line in text.split_inclusive(|b| *b == b'\n') {
+        if !case(rt, line)? {
             break;
         }
-        let Some(next) = case(rt, lines)? else {
-            break;
-        };
-        lines = next;
     }
     Ok(())
 }
 
 fn main(rt: HostRuntime) -> io::Result<()> {
     let mut text = [0u8; TEXT];
-    reader::read_text(&mut rt.reader(), &mut text)?;
-    cases(&rt, &text)
+    let text = reader::read_text(&mut rt.reader(), &mut text)?;
+    cases(&rt, text)
 }

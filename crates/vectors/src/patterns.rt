@@ -7,12 +7,9 @@ use std::io;
 
 // The pattern of the four numbers after the first.
 pub(crate) fn pattern_of(fields: &Fields) -> Pattern {
-    let f = fields.line();
+    let words = fields.line().skip(1);
     Pattern {
-        w0: f.number(1),
-        w1: f.number(2),
-        w2: f.number(3),
-        w3: f.number(4),
+        words: std::array::from_fn(|k| words.number(k)),
     }
 }
 
@@ -36,10 +33,10 @@ pub(crate) fn marks(rt: &impl Print, fields: &Fields) -> io::Result<()> {
 pub(crate) fn contour(rt: &impl Print, fields: &Fields, texture: &[u8]) -> io::Result<()> {
     match pattern::contour(fields.line().size(0), texture) {
         Ok(p) => {
-            output::word(rt, p.w0)?;
-            output::word(rt, p.w1)?;
-            output::word(rt, p.w2)?;
-            output::word(rt, p.w3)
+            for w in p.words {
+                output::word(rt, w)?;
+            }
+            Ok(())
         }
         Err(refusal) => output::refused(rt, refusal),
     }

@@ -1,6 +1,4 @@
 // Reading the text of the cases, and the fields in it.
-ghost use Rattle.std.specs.Prelude.{◌≤◌, length, IfSome};
-
 use std::io;
 use std::io::Read;
 
@@ -14,8 +12,14 @@ pub(crate) enum Field {
     Bar(u8),
 }
 
-// Reads the text until it is full or the input ends. A loop, since std fills a slice only where the input has as many bytes.
-pub(crate) fn read_text(input: &mut impl Read, text: &mut [u8; TEXT]) -> io::Result<()> {
+// Reads the text until the array is full or the input ends; the bytes read. A loop, since std fills a slice only where the input has as
+// many bytes. `show` and `compose_bench` have such a loop too: a shared one would be a public function of a library, and what a reader
+// gives has no definition of which bytes, that a contract could state. The array is lent as one, since the prover runs out of stack where
+// an array of this size is lent as a slice.
+pub(crate) fn read_text<'a>(
+    input: &mut impl Read,
+    text: &'a mut [u8; TEXT],
+) -> io::Result<&'a [u8]> {
     let mut done = 0;
     while done < TEXT {
         let read = input.read(&mut text[done..])?;
@@ -24,10 +28,10 @@ pub(crate) fn read_text(input: &mut impl Read, text: &mut [u8; TEXT]) -> io::Res
         }
         done += read;
     }
-    Ok(())
+    Ok(&text[..done])
 }
 
-// The value of a digit in base 36; none for a byte that is none.
+// The value of a digit in base 36; none for a byte that is none. `char::to_digit` takes capitals too, which the cases do not.
 fn digit(b: u8) -> Option<u64> {
     match b {
         b'0'..=b'9' => Some(u64::from(b - b'0')),
@@ -37,9 +41,7 @@ fn digit(b: u8) -> Option<u64> {
 }
 
 // The digits that come first, in a base of at most 36, and the bytes after them. In base 36 they are the word of a line.
-pub(crate) fn split_digits(bytes: &[u8], base: u64) -> (&[u8], &[u8])
-    ensures { length result.1.now ≤ length bytes.now }
-{
+pub(crate) fn split_digits(bytes: &[u8], base: u64) -> (&[u8], &[u8]) {
     let end = bytes
         .iter()
         .position(|b| digit(*b).is_none_or(|d| base <= d))
@@ -49,18 +51,19 @@ pub(crate) fn split_digits(bytes: &[u8], base: u64) -> (&[u8], &[u8])
 
 // The number that digits are in base 10 or 16; what does not fit goes.
 fn value(digits: &[u8], base: u64) -> u64 {
-    digits.iter().fold(0u64, |value, b| {
-        (value % 0x1000_0000_0000_0000)
-            .wrapping_mul(base)
-            .wrapping_add(digit(*b).unwrap_or(0))
-    })
+    digits
+        .iter()
+        .filter_map(|b| digit(*b))
+        .fold(0u64, |value, d| {
+            (value % 0x1000_0000_0000_0000)
+                .wrapping_mul(base)
+                .wrapping_add(d)
+        })
 }
 
 // The number that comes first, after a minus one to be taken from 0, after an x one in base 16, and the bytes after it; none where there is
 // no digit, minus or x.
-fn number(bytes: &[u8]) -> Option<(u64, &[u8])>
-    ensures { IfSome result (λ p. length p.1.now ≤ length bytes.now) }
-{
+fn number(bytes: &[u8]) -> Option<(u64, &[u8])> {
     let (first, after) = bytes.split_first()?;
     match first {
         b'-' => {
@@ -80,9 +83,7 @@ fn number(bytes: &[u8]) -> Option<(u64, &[u8])>
 }
 
 // What comes after a space, a bar and its letter or a number, and the bytes after it; none where it is neither.
-pub(crate) fn read_field(bytes: &[u8]) -> Option<(Field, &[u8])>
-    ensures { IfSome result (λ p. length p.1.now ≤ length bytes.now) }
-{
+pub(crate) fn read_field(bytes: &[u8]) -> Option<(Field, &[u8])> {
     let (first, after) = bytes.split_first()?;
     if *first == b'|' {
         let (letter, rest) = after.split_first()?;

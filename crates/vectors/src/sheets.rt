@@ -62,13 +62,12 @@ fn placed(
         height: f.short(2),
         placed: f.short(3),
     };
-    let mut numbers = records.skip(1);
-    for _ in 0..records.short(0) as usize % (MOST_BLOCKS + 1) {
-        match s.place(samples, input, record_of(numbers)) {
+    let count = records.short(0) as usize % (MOST_BLOCKS + 1);
+    for k in 0..count {
+        match s.place(samples, input, record_of(records.skip(4 * k + 1))) {
             Ok(next) => s = next,
             Err(refusal) => output::refused(rt, refusal)?,
         }
-        numbers = numbers.skip(4);
     }
     Ok(s)
 }
