@@ -53,13 +53,6 @@ bits-off f k {w} p q e = bits-more f k p (sym q) (e ∙ omega (arith, zero-mul (
 pub room-above : (f : ℕ → Bool) (k : ℕ) {w : ℕ} → k < 64 → w ≡ bits f k → w + 1 * 2 ^ k % 2 ^ 64 < 2 ^ 64
 room-above f k {w} h e = rw (shifted_one k h) (let l : w < 2 ^ k = rw e (bits-lt f k) in omega (arith, pow-suc 2 k, pow_mono {i = suc k} {j = 64} h))
 
--- and for one digit more
-pub room_digit : (f : ℕ → Bool) (k : ℕ) {w d : ℕ} → k < 64 → w ≡ bits f k → d < 2 → w + d * 2 ^ k % 2 ^ 64 < 2 ^ 64
-room_digit f k {w = w} {d = zero} h e l =
-    rw (zero-mul (2 ^ k)) (let below : w < 2 ^ k = rw e (bits-lt f k) in omega (arith, pow_mono {i = k} {j = 64} (omega arith)))
-room_digit f k {d = suc zero} h e l = room-above f k h e
-room_digit f k {d = suc (suc d)} h e l = absurd (omega arith)
-
 -- ---- all bits inverted
 
 digit_not : (b : Bool) (p : ℕ) → bit b * p + bit (not b) * p ≡ p

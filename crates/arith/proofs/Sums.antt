@@ -2,9 +2,13 @@
 use Prim.Native.Nat.{ℕ, zero, suc, ◌+◌, ◌*◌, ◌≤◌, ◌<◌}
 use mathlib.Core.Path.{◌≡◌, refl, sym, ap, ap₂, ◌∙◌}
 use mathlib.Core.Bool.{Bool, true, false, cond}
+use mathlib.Core.List.{List, ◌∷◌}
 use mathlib.Core.Logic.{⊎_elim}
 use native.Mathlib.Nat.{add-zero, add-suc, zero-mul, suc-mul}
 use native.Mathlib.Omega.{arith}
+use lib.ListN.{length, get_or}
+use Rattle.std.specs.List.{sum_by}
+use Rattle.std.proofs.lemmas.List.Recursion.{is_sum_by}
 use Rattle.arith.specs.Sum.{sum_to}
 use Rattle.arith.proofs.LeastLaws.{last-or-below}
 
@@ -41,6 +45,14 @@ pub sum-front : (f : ℕ → ℕ) (k : ℕ) → sum_to f (suc k) ≡ f 0 + sum_t
 unfolding sum_to
 sum-front f zero = omega arith
 sum-front f (suc k) = omega (arith, sum-front f k)
+
+-- the sum of a list's numbers, place by place
+pub sum-listed : (l : List ℕ) → sum_by (λ x. x) l ≡ sum_to (λ k. get_or l k 0) (length l)
+unfolding sum_to
+sum-listed l =
+    sym
+    (is_sum_by (λ xs. sum_to (λ k. get_or xs k 0) (length xs)) (λ x. x) refl
+    (λ x xs. sum-front (λ k. get_or (x ∷ xs) k 0) (length xs)) l)
 
 -- a sum in two parts
 pub sum-append : (f : ℕ → ℕ) (a b : ℕ) → sum_to f (a + b) ≡ sum_to f a + sum_to (λ j. f (a + j)) b

@@ -1,16 +1,20 @@
 -- The contour in words; the contour of a transposed texture: the transposed contour, for every n; and that it never marks all samples.
 use Prim.Native.Nat.{ℕ, zero, suc, ◌+◌, ◌-◌, ◌*◌, ◌/◌, ◌%◌, ◌^◌, ◌≤◌, ◌<◌, min}
-use mathlib.Core.List.{List}
+use mathlib.Core.List.{List, [], ◌∷◌, reverse, reverse-cons}
 use mathlib.Core.Bool.{Bool, true}
-use mathlib.Core.Path.{◌≡◌, refl, sym, ap, ◌∙◌}
+use mathlib.Core.Path.{◌≡◌, refl, sym, ap, ap₂, ◌∙◌}
+use native.Mathlib.Nat.{lt_of_lt_of_le, mod-eq_of_lt}
 use native.Mathlib.Omega.{arith}
 use borrow.Author.Tests.{ltb-true}
 use lib.Dec.{ltb}
 use lib.ListN.{length, get_or, take, drop, length-drop}
 use lib.Seq.{length-take-le, get_or-take, get_or-drop}
-use Rattle.arith.specs.Bits.{bits, test_bit}
+use lib.Pow.{pow_mono}
+use Rattle.std.specs.List.{fold}
+use Rattle.std.proofs.lemmas.List.Sums.{fold-append}
+use Rattle.arith.specs.Bits.{bit, bits, test_bit}
 use Rattle.arith.specs.Square.{place, transposed_list}
-use Rattle.arith.proofs.BitLaws.{bits-lt, bits-ext, bits_at, bits-all}
+use Rattle.arith.proofs.BitLaws.{bits-lt, bits-ext, bits_at, bits-all, bits-append}
 use Rattle.arith.proofs.SquareLaws.{place-lt, place-own, transposed-at}
 use Rattle.pattern.specs.Size.{greatest_size}
 use Rattle.pattern.specs.Pattern.{pattern, transposed}
@@ -27,6 +31,27 @@ contour-lt n t = bits-lt _ (n * n)
 -- which samples are above a level
 abbrev pub marks_above : ℕ → List ℕ → ℕ
 marks_above level s = bits (λ i. ltb level (get_or s i 0)) (length s)
+
+-- a word with a mark more below those that it has, where the next sample is above the level
+abbrev pub with_mark : ℕ → ℕ → ℕ → ℕ
+with_mark level w sample = w * 2 ^ 1 % 2 ^ 64 + bit (ltb level sample)
+
+-- at most 64 samples, the last of them first, give their marks
+pub marks_folded : (level : ℕ) (s : List ℕ) → length s ≤ 64 → fold (with_mark level) 0 (reverse s) ≡ marks_above level s
+unfolding bits
+marks_folded level [] h = refl
+marks_folded level (x ∷ s) h =
+    let f = λ (i : ℕ). ltb level (get_or (x ∷ s) i 0) in
+    let few : marks_above level s < 2 ^ 63 = lt_of_lt_of_le (bits-lt _ (length s)) (pow_mono {i = length s} {j = 63} (omega arith)) in
+    let roomy : marks_above level s * 2 ^ 1 % 2 ^ 64 ≡ marks_above level s * 2 ^ 1 = mod-eq_of_lt (omega (arith, few)) in
+    let first : bit (f 0) ≡ bits f 1 = omega arith in
+    let long : 1 + length s ≡ suc (length s) = omega arith in
+    ap (fold (with_mark level) 0) (reverse-cons x s)
+    ∙ fold-append (with_mark level) 0 (reverse s) (x ∷ [])
+    ∙ ap (λ (w : ℕ). with_mark level w x) (marks_folded level s (omega arith))
+    ∙ ap₂ (λ (v w : ℕ). v + w) (roomy ∙ ap (λ (w : ℕ). w * 2 ^ 1) (bits-ext _ (λ j. f (1 + j)) (length s) (λ j l. let e : suc j ≡ 1 + j = omega arith in ap f e))) first
+    ∙ sym (bits-append f 1 (length s))
+    ∙ ap (bits f) long
 
 -- the samples above a level from one place on
 abbrev pub above_from : List ℕ → ℕ → ℕ → ℕ → Bool

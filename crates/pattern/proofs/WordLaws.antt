@@ -16,9 +16,9 @@ use lib.ListN.{length, get_or, take, length-append, get_or-append, get_or-eq_def
 use lib.Seq.{length-take-le, get_or-take, ext_get_or}
 use lib.Pow.{high, low, pow-add, pow_mono, shr-shr}
 use Rattle.std.specs.Bool.{MatchBool}
-use Rattle.std.specs.List.{range_with_len, AllWithin, HoldsAt, sum_by}
+use Rattle.std.specs.List.{enumerate_from, AllWithin, HoldsAt, sum_by}
 use Rattle.std.proofs.NetLemmas.Arrays.{four_items}
-use Rattle.std.proofs.lemmas.List.FromFn.{length-range_with_len, get_or-range_with_len}
+use Rattle.std.proofs.lemmas.List.FromFn.{length-enumerate_from, get_or-enumerate_from}
 use Rattle.arith.specs.Bits.{bits, test_bit}
 use Rattle.arith.proofs.BitLaws.{bits-append, bits-ext, low_bit, high_bit, bit_past}
 use Rattle.arith.proofs.ListLaws.{length-list_of, list_of-at, list_of-ext, list_of-own}
@@ -276,20 +276,25 @@ module _ (l : List ℕ) (k : ℕ) (p : get_or l 0 0 < 2 ^ 64) (q : get_or l 1 0 
       below-each
       ∙ none-of _ _ _ _ i h (λ z. ap below_at (sym z) ∙ e) (λ z. ap below_at (sym z) ∙ e) (λ z. ap below_at (sym z) ∙ e) (λ z. ap below_at (sym z) ∙ e)
 
--- what `all` over the words finds
-range-at : (i : ℕ) → i < 4 → get_or (range_with_len 0 4) i 0 ≡ i
-range-at i h = get_or-range_with_len 0 4 i 0 h ∙ omega arith
+-- what `all` over the words, each with its place, finds
+module _ (l : List ℕ) (k : ℕ) (four : length l ≡ 4) (p : get_or l 0 0 < 2 ^ 64) (q : get_or l 1 0 < 2 ^ 64) (r : get_or l 2 0 < 2 ^ 64) where
+  placed-at : (i : ℕ) → i < length (enumerate_from 0 l) → get_or (enumerate_from 0 l) i (0, 0) ≡ (i, get_or l i 0)
+  placed-at i h =
+      let e : 0 + i ≡ i = omega arith in
+      get_or-enumerate_from 0 l i (0, 0) (rw (← length-enumerate_from 0 l) h) ∙ ap (λ (j : ℕ). (j, get_or l i 0)) e
 
-module _ (l : List ℕ) (k : ℕ) (p : get_or l 0 0 < 2 ^ 64) (q : get_or l 1 0 < 2 ^ 64) (r : get_or l 2 0 < 2 ^ 64) where
   pub below_found :
-      (b : Bool) → let s = range_with_len 0 4 in
-      MatchBool b (AllWithin (λ i. ltb (get_or l i 0) (2 ^ (k - 64 * i)) ≡ true) s 0 (length s))
-      ((i : ℕ) × (i < length s) × HoldsAt (λ i. ltb (get_or l i 0) (2 ^ (k - 64 * i)) ≡ false) s i)
+      (b : Bool) → let s = enumerate_from 0 l in
+      let below = λ (e : ℕ × ℕ). ltb e.1 (2 ^ (k - 64 * e.0)) in
+      MatchBool b (AllWithin (λ e. below e ≡ true) s 0 (length s)) ((i : ℕ) × (i < length s) × HoldsAt (λ e. below e ≡ false) s i)
       → b ≡ ltb (four_at l 0) (2 ^ k)
-  below_found true h = sym (all_below l k p q r (λ i g. rw (range-at i g) at (h i 0 (omega arith) (omega (arith, g, length-range_with_len 0 4)))))
+  below_found true h =
+      sym
+      (all_below l k p q r
+      (λ i g. let lt : i < length (enumerate_from 0 l) = omega (arith, length-enumerate_from 0 l) in
+      rw (placed-at i lt) at (h i (0, 0) (omega arith) lt)))
   below_found false h =
-      let g : h.0 < 4 = omega (arith, h.1, length-range_with_len 0 4) in
-      sym (one_above l k p q r h.0 g (rw (range-at h.0 g) at (h.2 0)))
+      sym (one_above l k p q r h.0 (omega (arith, h.1, length-enumerate_from 0 l)) (rw (placed-at h.0 h.1) at (h.2 (0, 0))))
 
 -- a number of 64 bits is its first word
 pub first_word : (a b c d : ℕ) → a < 2 ^ 64 → four_words a b c d < 2 ^ 64 → four_words a b c d ≡ a

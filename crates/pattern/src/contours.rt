@@ -1,32 +1,14 @@
 // The contour of a block's texture.
-ghost use Rattle.std.specs.Prelude.{◌≡◌, ◌*◌, ◌≤◌, ltb, length, get_or, IfOk};
+ghost use Rattle.std.specs.Prelude.{◌≡◌, ◌*◌, ◌≤◌, ltb, length, get_or};
 ghost use Rattle.arith.specs.Bits.{bits};
 ghost use Rattle.pattern.specs.Contour.{threshold};
-ghost use Rattle.pattern.specs.Answer.{samples_refusal, contour_answer};
-ghost use Rattle.pattern.specs.Refusal.{refusal_in, told};
+ghost use Rattle.pattern.specs.Answer.{contour_answer};
+ghost use Rattle.pattern.specs.Refusal.{told};
 ghost use Rattle.pattern.specs.Words.{pattern_number};
 
-use crate::refusals::{Refusal, check};
+use crate::refusals::Refusal;
 use crate::size::Size;
 use crate::words::Pattern;
-
-// The size of a block of so many samples. Refuses a size that is not allowed, and a block of another number of samples.
-#[tactic(auto, unfolding(crate::specs::Answer::samples_refusal))]
-fn size_of(n: usize, samples: usize) -> Result<Size, Refusal>
-    ensures { (refusal_in result ≡ samples_refusal n samples) × IfOk result (λ size. (size.n ≡ n) × (samples ≡ n * n)) }
-{
-    let size = Size::try_from(n)?;
-    check(samples == n * n, Refusal::Length)?;
-    Ok(size)
-}
-
-// Refuses a size that is not allowed, and a block of another number of samples.
-pub fn check_samples(n: usize, samples: usize) -> Result<(), Refusal>
-    ensures { refusal_in result ≡ samples_refusal n samples }
-{
-    size_of(n, samples)?;
-    Ok(())
-}
 
 // The sum of the four corner samples divided by 4, rounded down.
 #[tactic(auto, unfolding(crate::specs::Contour::threshold))]
@@ -47,11 +29,9 @@ fn above(samples: &[u8], level: u32) -> u64
     requires { length samples.now ≤ 64 }
     ensures { let s = samples.now in result ≡ bits (λ i. ltb level (get_or s i 0)) (length s) }
 {
-    let mut w: u64 = 0;
-    for (i, &sample) in samples.iter().enumerate() {
-        w += u64::from(level < u32::from(sample)) << i;
-    }
-    w
+    samples.iter().rev().fold(0, |w, &sample| {
+        (w << 1) + u64::from(level < u32::from(sample))
+    })
 }
 
 // The contour of n * n texture samples.
@@ -59,7 +39,7 @@ fn above(samples: &[u8], level: u32) -> u64
 pub fn contour(n: usize, texture: &[u8]) -> Result<Pattern, Refusal>
     ensures { told pattern_number result ≡ contour_answer n texture.now }
 {
-    let size = size_of(n, texture.len())?;
+    let size = Size::of_block(n, texture.len())?;
     let level = threshold(size, texture);
     let end = texture.len();
     let second = end.min(64);

@@ -8,7 +8,7 @@ mod size;
 mod words;
 
 pub use checks::texture_ok;
-pub use contours::{check_samples, contour};
+pub use contours::contour;
 pub use refusals::{Refusal, check};
 pub use size::{GREATEST_SIZE, NEIGHBOURS, SAMPLES, Size, size_ok};
 pub use words::{Pattern, PatternList, WORDS, count_ok, whole_patterns, words_of};

@@ -1,7 +1,8 @@
 // The allowed sizes, and what a block of the greatest size has.
-ghost use Rattle.std.specs.Prelude.{◌≡◌, ◌*◌, ◌<◌, ◌≤◌, true, MatchResult};
+ghost use Rattle.std.specs.Prelude.{◌≡◌, ◌*◌, ◌<◌, ◌≤◌, true, MatchResult, IfOk};
 ghost use Rattle.pattern.specs.Size.{greatest_size, greatest_samples, size_ok};
-ghost use Rattle.pattern.specs.Refusal.{IsSizeRefusal};
+ghost use Rattle.pattern.specs.Answer.{samples_refusal};
+ghost use Rattle.pattern.specs.Refusal.{IsSizeRefusal, refusal_in};
 
 use crate::refusals::{Refusal, check};
 
@@ -40,5 +41,17 @@ impl TryFrom<usize> for Size {
     fn try_from(n: usize) -> Result<Size, Refusal> {
         check(size_ok(n), Refusal::Size)?;
         Ok(Size { n })
+    }
+}
+
+impl Size {
+    // The size of a block of so many samples. Refuses a size that is not allowed, and a block of another number of samples.
+    #[tactic(auto, unfolding(crate::specs::Answer::samples_refusal))]
+    pub fn of_block(n: usize, samples: usize) -> Result<Size, Refusal>
+        ensures { (refusal_in result ≡ samples_refusal n samples) × IfOk result (λ size. (size.n ≡ n) × (samples ≡ n * n)) }
+    {
+        let size = Size::try_from(n)?;
+        check(samples == n * n, Refusal::Length)?;
+        Ok(size)
     }
 }

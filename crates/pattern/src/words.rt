@@ -59,7 +59,10 @@ impl Pattern {
         ensures { result ≡ word_ok n (pattern_number self) }
     {
         GREATEST_SIZE <= n
-            || (0..WORDS).all(|i| word_below(self.words[i], (n * n).saturating_sub(64 * i)))
+            || self.words.iter().enumerate().all(|(i, &word)| word_below(
+                word,
+                (n * n).saturating_sub(64 * i),
+            ))
     }
 
     // The number of marks.

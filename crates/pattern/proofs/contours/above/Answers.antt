@@ -1,19 +1,14 @@
--- `above` meets its contract: a word of i marks has room for one more.
-use Prim.Native.Nat.{ℕ, ◌<◌}
-use mathlib.Core.Bool.{Bool, true, false}
-use mathlib.Core.Path.{◌≡◌}
-use native.Mathlib.Omega.{arith}
-use mir.Val.{bool_byte}
-use Rattle.arith.proofs.BitLaws.{room_digit}
+-- `above` meets its contract: the last sample gives the highest mark.
+use mathlib.Core.Path.{◌∙◌}
+use borrow.Author.Rules.{rules}
+use Rattle.std.proofs.lemmas.Iterator.Adapters.{YieldsList-from_rev_slice}
+use Rattle.std.proofs.lemmas.Iterator.Consumers.{fold_from_yields_List}
+use Rattle.pattern.proofs.ContourLaws.{with_mark, marks_folded}
 use Rattle.pattern.proofs.contours.above.Goals as goal
 
-digit : (b : Bool) → bool_byte b < 2
-digit true = omega arith
-digit false = omega arith
-
-small : {r : ℕ} (b : Bool) → r ≡ bool_byte b → r < 2
-small b e = rw e (digit b)
-
-pub overflow_add-w : goal.overflow_add-w
-overflow_add-w c =
-    omega (arith, room_digit _ c.loop-i.i (omega arith) c.loop-i.invariant (small _ c.from-in-loop-i.ensures))
+pub returns : goal.returns
+returns c =
+    let s = c.args.samples.now in
+    fold_from_yields_List _ (with_mark c.args.level) 0 c.fold.result c.fold.ensures.ran
+    (YieldsList-from_rev_slice s (search rules)) (λ a x b q called. search rules)
+    ∙ marks_folded c.args.level s c.requires

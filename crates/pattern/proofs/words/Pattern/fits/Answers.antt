@@ -1,16 +1,18 @@
 -- `fits` meets its contract: four words have no bit from k up where none of them has one there.
-use Prim.Native.Nat.{ℕ, ◌-◌, ◌*◌, ◌^◌}
+use Prim.Native.Nat.{ℕ, ◌-◌, ◌*◌, ◌^◌, ◌<◌}
 use mathlib.Core.Bool.{true, false}
-use mathlib.Core.Path.{◌≡◌, refl, sym, ◌∙◌}
+use mathlib.Core.Path.{◌≡◌, sym, ◌∙◌}
 use native.Mathlib.Nat.{lt_of_lt_of_le}
 use borrow.Author.Tests.{lt-ltb, le-leb}
 use lib.Dec.{ltb}
-use lib.ListN.{get_or}
+use lib.ListN.{length, get_or}
 use lib.Pow.{pow_mono}
 use Rattle.std.proofs.Common.{rules, tests}
-use Rattle.std.proofs.lemmas.Iterator.{cases_from_all, YieldsList-from_range}
+use Rattle.std.proofs.lemmas.Iterator.{cases_from_all, YieldsList-from_slice}
+use Rattle.std.proofs.lemmas.Iterator.Consumers.{YieldsList-from_enumerate}
 use Rattle.arith.proofs.SquareLaws.{square_le}
 use Rattle.pattern.proofs.WordLaws.{four-lt, below_found}
+use Rattle.pattern.proofs.words.Pattern.fits.Goals.{Start}
 use Rattle.pattern.proofs.words.Pattern.fits.Goals as goal
 
 pub returns-then-n-ge-GREATEST_SIZE : goal.returns-then-n-ge-GREATEST_SIZE
@@ -21,10 +23,17 @@ returns-then-n-ge-GREATEST_SIZE c =
     (lt_of_lt_of_le (four-lt _ _ _ _ (search rules) (search rules) (search rules) (search rules))
     (pow_mono (square_le {n = 16} c.if-n-ge-GREATEST_SIZE.true))))
 
+-- four words, each of 64 bits
+four_fit : (c : Start) → let w = c.args.self.words in
+    (length w ≡ 4) × (get_or w 0 0 < 2 ^ 64) × (get_or w 1 0 < 2 ^ 64) × (get_or w 2 0 < 2 ^ 64)
+four_fit c = (search rules, search rules, search rules, search rules)
+
 pub returns-else-n-ge-GREATEST_SIZE : goal.returns-else-n-ge-GREATEST_SIZE
 returns-else-n-ge-GREATEST_SIZE c =
     let k = c.args.n * c.args.n in
-    let below = λ (i : ℕ). ltb (get_or c.args.self.words i 0) (2 ^ (k - 64 * i)) in
-    below_found c.args.self.words k (search rules) (search rules) (search rules) c.all.result
-    (cases_from_all _ _ _ (λ i. below i ≡ true) (λ i. below i ≡ false) c.all.ensures.ran (YieldsList-from_range 0 4 4 refl refl)
+    let w = four_fit (goal.at.returns-else-n-ge-GREATEST_SIZE c).Start in
+    let below = λ (e : ℕ × ℕ). ltb e.1 (2 ^ (k - 64 * e.0)) in
+    below_found c.args.self.words k w.0 w.1 w.2 w.3 c.all.result
+    (cases_from_all _ _ _ (λ e. below e ≡ true) (λ e. below e ≡ false) c.all.ensures.ran
+    (YieldsList-from_enumerate (YieldsList-from_slice c.args.self.words (search rules)) (search rules))
     (λ x q g. search (rules, tests)) (λ x q g. search (rules, tests)))
