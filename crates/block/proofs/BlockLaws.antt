@@ -1,10 +1,16 @@
 -- Laws of blocks, over the capacity m and the size n.
-use Prim.Native.Nat.{ℕ, zero, suc, ◌+◌, ◌*◌, ◌/◌, ◌%◌, ◌≤◌, ◌<◌}
+use Prim.Native.Nat.{ℕ, zero, suc, ◌+◌, ◌-◌, ◌*◌, ◌/◌, ◌%◌, ◌≤◌, ◌<◌}
 use mathlib.Core.List.{List, [], ◌∷◌, ◌++◌}
 use mathlib.Core.Path.{◌≡◌, refl, sym, ap, ap₂, ◌∙◌}
+use native.Mathlib.Decide.{dec_lt}
+use native.Mathlib.Nat.{suc-mul}
 use native.Mathlib.Omega.{arith}
+use borrow.Rule.Slice.PartMut.{put_mid}
 use lib.Arith.{digits_div, digits_mod}
-use lib.ListN.{length, get_or, drop, replicate}
+use lib.ListN.{length, get_or, take, drop, replicate}
+use lib.Seq.{length-take-le}
+use Rattle.std.proofs.lemmas.List.{get_or-take, get_or_append_left, get_or-append_right}
+use Rattle.std.proofs.lemmas.Slice.{take-put_mid}
 use Rattle.arith.specs.Lists.{list_of, upto}
 use Rattle.arith.specs.Square.{place, transposed_list}
 use Rattle.arith.proofs.ListLaws.{list_of-at, list_of-ext, list_of-own, upto-none, upto-at, upto-ext}
@@ -86,6 +92,30 @@ pub samples-at : (n : ℕ) (b : List (List ℕ)) (x y : ℕ) → x < n → y < n
 unfolding samples_of
 samples-at n b x y hx hy =
     list_of-at _ 0 (n * n) (place n x y) (place-lt n x y hx hy) ∙ ap₂ (sample b) (digits_mod y hx) (digits_div y hx)
+
+-- row y of the samples is put in the place of the k that stood there, behind the y rows before it
+pub row-written :
+    (n y : ℕ) (b : List (List ℕ)) (s row : List ℕ) (k : ℕ) → (y + 1) * n ≤ length s → length row ≡ n
+    → ((x : ℕ) → x < n → get_or row x 0 ≡ sample b x y)
+    → ((i : ℕ) → i < y * n → get_or s i 0 ≡ sample b (i % n) (i / n))
+    → (i : ℕ) → i < (y + 1) * n → get_or (put_mid (y * n) k s row) i 0 ≡ sample b (i % n) (i / n)
+row-written n y b s row k room full same before i h =
+    sym (get_or-take ((y + 1) * n) (put_mid (y * n) k s row) i 0 h)
+    ∙ ap (λ (l : List ℕ). get_or l i 0) (take-put_mid (y * n) k s row ((y + 1) * n) (omega (arith, suc-mul y n)) (omega (arith, suc-mul y n)))
+    ∙ go (dec_lt i (y * n))
+  where
+    first : length (take (y * n) s) ≡ y * n
+    first = length-take-le (y * n) s (omega (arith, suc-mul y n))
+
+    go : Dec (i < y * n) → get_or (take (y * n) s ++ row) i 0 ≡ sample b (i % n) (i / n)
+    go (yes l) = get_or_append_left (take (y * n) s) row 0 i (omega (arith, first)) ∙ get_or-take (y * n) s i 0 l ∙ before i l
+    go (no l) =
+        let x : ℕ = i - y * n in
+        let lx : x < n = omega (arith, suc-mul y n) in
+        let e : i ≡ place n x y = omega arith in
+        get_or-append_right (take (y * n) s) row (y * n) i 0 first (omega arith)
+        ∙ same x lx
+        ∙ ap₂ (sample b) (sym (ap (λ (j : ℕ). j % n) e ∙ digits_mod y lx)) (sym (ap (λ (j : ℕ). j / n) e ∙ digits_div y lx))
 
 -- those of the transposed block are the transposed samples
 pub samples-transposed : (m n : ℕ) (s : List ℕ) → n ≤ m → samples_of n (transposed_block m n (block_of m n s)) ≡ transposed_list n s

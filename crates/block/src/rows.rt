@@ -1,12 +1,12 @@
 // A block as an array of row arrays, filled up to its size.
-ghost use Rattle.std.specs.Prelude.{ℕ, ◌≡◌, ◌+◌, ◌*◌, ◌<◌, ◌≤◌, length, IfOk};
+ghost use Rattle.std.specs.Prelude.{ℕ, ◌≡◌, ◌+◌, ◌*◌, ◌<◌, ◌≤◌, length};
 ghost use Rattle.arith.specs.Lists.{upto};
 ghost use Rattle.pattern.specs.Answer.{samples_refusal};
 ghost use Rattle.pattern.specs.Refusal.{refusal_in};
 ghost use Rattle.block.specs.Block.{capacity, block_by, samples_of};
 ghost use Rattle.block.specs.Answer.{block_after, size_refusal, transposed_after, samples_after};
 
-use pattern::{Refusal, Size, check};
+use pattern::{Refusal, Size};
 
 // The rows and columns that a block has room for.
 pub const CAPACITY: usize = pattern::GREATEST_SIZE;
@@ -49,23 +49,13 @@ fn block_by<F: Fn(usize, usize) -> u8>(size: Size, f: F) -> Block
     b
 }
 
-// The size n of a block of so many samples; or refusal 1 or 2.
-#[tactic(auto, unfolding(pattern::specs::Answer::samples_refusal))]
-fn size_of(n: usize, samples: usize) -> Result<Size, Refusal>
-    ensures { (refusal_in result ≡ samples_refusal n samples) × IfOk result (λ size. (size.n ≡ n) × (samples ≡ n * n)) }
-{
-    let allowed = Size::try_from(n)?;
-    check(samples == n * n, Refusal::Length)?;
-    Ok(allowed)
-}
-
 // Makes b the block of n * n samples that come row by row; a refusal, 1 or 2, alters nothing.
 #[tactic(auto, using(crate::proofs::BlockLaws::place_fits), unfolding(crate::specs::Answer::block_after))]
 pub fn block_of(n: usize, samples: &[u8], b: &mut Block) -> Result<(), Refusal>
     ensures { let s = samples.now in
         (refusal_in result ≡ samples_refusal n (length s)) × (b.new ≡ block_after n s b.old) }
 {
-    let size = size_of(n, samples.len())?;
+    let size = Size::of_block(n, samples.len())?;
     *b = block_by(size, |x, y| samples[y * n + x]);
     Ok(())
 }
@@ -80,13 +70,16 @@ pub fn transpose(n: usize, b: &mut Block) -> Result<(), Refusal>
     Ok(())
 }
 
-// The samples of a block row by row, written to the slice.
+// The samples of a block row by row, written to the slice. The places of a row are cut out by its number: by `chunks_exact_mut` the proof
+// did not close, as nothing is known of a slice after a loop over its chunks.
 fn put_samples(size: Size, b: Block, samples: &mut [u8])
     requires { length samples.old ≡ size.n * size.n }
     ensures { samples.new ≡ samples_of size.n b }
 {
-    for (k, sample) in samples.iter_mut().enumerate() {
-        *sample = b[k / size.n][k % size.n];
+    let n = size.n;
+    for (y, row) in b[..n].iter().enumerate() {
+        let at = y * n;
+        samples[at..at + n].copy_from_slice(&row[..n]);
     }
 }
 
@@ -96,7 +89,7 @@ pub fn write_block(n: usize, b: Block, samples: &mut [u8]) -> Result<(), Refusal
     ensures { let old = samples.old in
         (refusal_in result ≡ samples_refusal n (length old)) × (samples.new ≡ samples_after n b old) }
 {
-    let size = size_of(n, samples.len())?;
+    let size = Size::of_block(n, samples.len())?;
     put_samples(size, b, samples);
     Ok(())
 }

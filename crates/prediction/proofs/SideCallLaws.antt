@@ -3,7 +3,6 @@ use Prim.Native.Nat.{ℕ, ◌*◌, ◌^◌, ◌≤◌, ◌<◌}
 use mathlib.Core.Path.{◌≡◌}
 use mathlib.Core.Bool.{true}
 use mathlib.Core.List.{List, [], ◌∷◌}
-use native.Mathlib.Omega.{arith}
 use lib.Dec.{eqb}
 use lib.ListN.{length}
 use borrow.Author.Tests.{eqb-true, eq-eqb, ltb-true}
@@ -27,11 +26,7 @@ sides-accepted n w s h =
     let b = size-bounds n c.0 in
     record { size = c.0; low = b.0; high = b.1; long = eqb-true _ _ c.1.0; inside = ltb-true w (2 ^ (n * n)) c.1.1.0 }
 
--- the bounds that the code works within
-pub sides-bounds : (n w : ℕ) (s : List ℕ) → sides_refusal n w s ≡ 0 → (1 ≤ n) × (n ≤ greatest_size) × (length s ≡ 4 * n)
-sides-bounds n w s h = let a = sides-accepted n w s h in (omega (arith, a.low), a.high, a.long)
-
--- nor does it where the size, the number of neighbours and the word are allowed
+-- it refuses nothing where the size, the number of neighbours and the word are allowed
 pub sides-pass : (n w : ℕ) (s : List ℕ) → size_ok n ≡ true → length s ≡ 4 * n → word_ok n w ≡ true → sides_refusal n w s ≡ 0
 unfolding sides_refusal
 sides-pass n w s a b d = rw (a, eq-eqb (length s) (4 * n) b, d)

@@ -34,7 +34,8 @@ side-depth-bits n w s m = ap (λ (b : Bool). cond (differ m b) (br n w s) (lt n 
 mean-byte : (a b : ℕ) → a < 256 → b < 256 → (a + b) / 2 < 256
 mean-byte a b ha hb = omega arith
 
-pick-byte : (c : Bool) (a b : ℕ) → a < 256 → b < 256 → cond c a b < 256
+-- the one of two bytes that a test picks is a byte
+pub pick-byte : (c : Bool) (a b : ℕ) → a < 256 → b < 256 → cond c a b < 256
 pick-byte true a b ha hb = ha
 pick-byte false a b ha hb = hb
 

@@ -1,9 +1,9 @@
--- `put_samples` meets its contract: after k samples the first k places hold the block's.
+-- `put_samples` meets its contract: after y rows the places of those rows hold the block's samples.
 use Prim.Native.Nat.{ℕ, ◌*◌, ◌/◌, ◌%◌, ◌<◌}
 use mathlib.Core.Path.{◌≡◌}
-use lib.ListN.{length, get_or}
+use lib.ListN.{get_or}
 use Rattle.block.specs.Block.{sample}
 use Rattle.block.proofs.rows.put_samples.Given as goal
 
-abbrev pub invariant-loop-k : goal.invariant-loop-k
-invariant-loop-k l = (length l.samples ≡ l.size.n * l.size.n) × ((i : ℕ) → i < l.k → get_or l.samples i 0 ≡ sample l.b (i % l.size.n) (i / l.size.n))
+abbrev pub invariant-loop-y : goal.invariant-loop-y
+invariant-loop-y l = (i : ℕ) → i < l.y * l.n → get_or l.samples i 0 ≡ sample l.fn.b (i % l.n) (i / l.n)
