@@ -21,12 +21,13 @@ use Rattle.arith.specs.Sum.{sum_to}
 use Rattle.arith.proofs.Sums.{sum-ext, sum-add}
 use Rattle.depth_table.proofs.TableLaws.{table-bytes, table-rises}
 use Rattle.choice.specs.Cost.{side_cost}
+use Rattle.choice.specs.Sums.{marked_sum}
 use Rattle.choice.specs.Tally.{side_count, side_size, side_below}
-use Rattle.choice.specs.Layers.{below_word, Parted}
+use Rattle.choice.specs.Layers.{below_word, layer_at, Layered, Parted}
 use Rattle.choice.specs.Trial.{Better, TrialOf}
 use Rattle.choice.specs.Turn.{Convex, BestLevel, twice, Turn, UpTried, DownTried, offset_cost, Findable, number_to}
-use Rattle.choice.proofs.LayerLaws.{xor-bit, below-count}
-use Rattle.choice.proofs.TallyLaws.{cost_step, below_step}
+use Rattle.choice.proofs.LayerLaws.{xor-bit, below-count, size-count}
+use Rattle.choice.proofs.TallyLaws.{cost_step, below_step, count-le}
 use Rattle.choice.proofs.TurnLaws.{up_next, up-last, down-next, down-last, best-here, number_up, number-down}
 
 -- what a partition costs is convex in the value
@@ -47,6 +48,10 @@ marked-or-not false = refl
 one_of : (b : Bool) → bit (not b && true) + bit (b && true) ≡ 1
 one_of true = refl
 one_of false = refl
+
+either_term : (b : Bool) (x : ℕ) → cond (not b) x 0 + cond b x 0 ≡ x
+either_term true x = omega arith
+either_term false x = omega arith
 
 sum_ones : (c : ℕ) → sum_to (λ _. 1) c ≡ c
 unfolding sum_to
@@ -78,6 +83,41 @@ module _ (c : ℕ) (samples : List ℕ) (w : ℕ) (small : w < 2 ^ c) where
     unfolding side_count
     sizes-whole =
         sym (sum-add _ _ c) ∙ sum-ext _ (λ _. 1) c (λ k l. rw (part-bit k l) (one_of (test_bit w k))) ∙ sum_ones c
+
+    -- and a sum over the one and over the other is one over all samples
+    pub sums-whole : (f : ℕ → ℕ) → marked_sum f (bit_xor (below_word c samples 256) w) c + marked_sum f w c ≡ sum_to f c
+    unfolding marked_sum
+    sums-whole f = sym (sum-add _ _ c) ∙ sum-ext _ f c (λ k l. rw (part-bit k l) (either_term (test_bit w k) (f k)))
+
+-- a block's samples in two parts: those that a pattern marks, and the others
+module _
+    (samples : List ℕ) (below sums : List (List ℕ)) (L : Layered samples below sums) (bytes : (k : ℕ) → get_or samples k 0 < 256)
+    (w : ℕ) (small : w < 2 ^ length samples) {size sum : ℕ} (es : size ≡ ones w)
+    (em : sum ≡ marked_sum (λ k. get_or samples k 0) w (length samples)) where
+  abbrev all_sum : ℕ
+  all_sum = sum_to (λ k. get_or samples k 0) (length samples)
+
+  size_is : size ≡ side_size (length samples) samples w true
+  size_is = es ∙ size-count (length samples) samples w small
+
+  pub size-le : size ≤ length samples
+  size-le = omega (arith, size_is, count-le samples w true (length samples) (λ x. true))
+
+  pub sum_inside : sum ≤ all_sum
+  sum_inside = omega (arith, em, sums-whole (length samples) samples w small bytes (λ k. get_or samples k 0))
+
+  pub marked_part : Parted samples below sums w size sum
+  marked_part = record { layers = L; small = small; its_size = size_is; its_sum = em }
+
+  pub others_part : {part total : ℕ} → part ≡ bit_xor (layer_at below 256) w → total ≡ all_sum → Parted samples below sums part (length samples - size) (total - sum)
+  others_part {part} {total} ep et =
+      let e : part ≡ bit_xor (below_word (length samples) samples 256) w = ep ∙ ap (λ (x : ℕ). bit_xor x w) (L.below_at 256 (omega arith)) in
+      record {
+        layers = L;
+        small = rw e (part-lt (length samples) samples w small false);
+        its_size = rw e (omega (arith, size_is, sizes-whole (length samples) samples w small bytes));
+        its_sum = rw e (omega (arith, em, et, sums-whole (length samples) samples w small bytes (λ k. get_or samples k 0)));
+      }
 
 -- the number of the offset to an index above or below
 number-above : (i j : ℕ) → i ≤ j → number_to i j ≡ 2 * (j - i)

@@ -1,12 +1,11 @@
 -- What follows for a pattern that is weighed: the index of each partition's depth, and its best offset from that of its
 -- samples as a pattern.
-use Prim.Native.Nat.{ℕ, ◌-◌, ◌*◌, ◌^◌, ◌≤◌, ◌<◌}
+use Prim.Native.Nat.{ℕ, ◌*◌, ◌^◌, ◌≤◌, ◌<◌}
 use mathlib.Core.Path.{◌≡◌, sym, ap, subst, ◌∙◌}
-use mathlib.Core.Bool.{Bool, true, false, cond}
+use mathlib.Core.Bool.{Bool, true, cond}
 use mathlib.Core.List.{List}
 use native.Mathlib.Omega.{arith}
 use lib.Bits.{bit_xor}
-use lib.Count.{ones}
 use lib.ListN.{length, get_or}
 use Rattle.arith.specs.Distance.{clamped}
 use Rattle.depth_table.specs.Table.{index_of}
@@ -20,12 +19,9 @@ use Rattle.choice.specs.Offset.{offset}
 use Rattle.choice.specs.Case.{reach_in_use}
 use Rattle.choice.specs.Cost.{side_cost}
 use Rattle.choice.specs.Layers.{layer_at, below_word}
-use Rattle.choice.specs.Tally.{side_size}
 use Rattle.choice.specs.Trial.{TrialOf}
 use Rattle.choice.specs.Turn.{offset_cost, Findable}
-use Rattle.choice.proofs.FindLaws.{part-lt, part-cost, sizes-whole}
-use Rattle.choice.proofs.LayerLaws.{size-count}
-use Rattle.choice.proofs.TallyLaws.{count-le}
+use Rattle.choice.proofs.FindLaws.{part-cost}
 use Rattle.choice.proofs.TrialLaws.{trial-of-same}
 use Rattle.choice.specs.Cases.{side_case, depth_in}
 use Rattle.choice.specs.Search.{trial_cost}
@@ -45,27 +41,6 @@ module _ (n w : ℕ) (s o t : List ℕ) (R : ℕ) (h : Weighable n w s o t R) wh
     -- the word marks samples of the block only
     pub word_small : w < 2 ^ length o
     word_small = rw h.square (sides-accepted n w s h.sides).inside
-
-    -- the others of the block
-    others-are : {part : ℕ} → part ≡ bit_xor (layer_at below 256) w → part ≡ bit_xor (below_word (length o) o 256) w
-    others-are ep = ep ∙ ap (λ (x : ℕ). bit_xor x w) (q.layers.below_at 256 (omega arith))
-
-    pub others-small : {part : ℕ} → part ≡ bit_xor (layer_at below 256) w → part < 2 ^ length o
-    others-small ep = rw (others-are ep) (part-lt (length o) o w word_small false)
-
-    -- so many samples are marked, and all others are not
-    module _ {size : ℕ} (e : size ≡ ones w) where
-      size_is : size ≡ side_size (length o) o w true
-      size_is = e ∙ size-count (length o) o w word_small
-
-      pub size-le : size ≤ length o
-      size-le = omega (arith, size_is, count-le o w true (length o) (λ x. true))
-
-      pub size-others : {part : ℕ} → part ≡ bit_xor (layer_at below 256) w → length o - size ≡ ones part
-      size-others {part} ep =
-          let n = size-count (length o) o part (others-small ep) in
-          let m = ap (λ (x : ℕ). side_size (length o) o x true) (others-are ep) in
-          omega (arith, size_is, n, m, sizes-whole (length o) o w word_small bytes)
 
     module _ (m : Bool) {j part : ℕ} (ej : j ≡ side_case n w m) (hj : j < 8) (ep : part ≡ cond m w (bit_xor (layer_at below 256) w)) where
       abbrev i : ℕ

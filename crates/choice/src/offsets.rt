@@ -52,6 +52,8 @@ pub(crate) struct Search<'a> {
     ghost findable: { Findable table.now at reach },
 }
 
+// What a search calls for each pattern is inlined, here and in `Layers::parts`: else its struct goes through memory, where words that were
+// stored one by one are loaded in pairs, and a choice takes a tenth to a quarter longer.
 impl Search<'_> {
     // Twice the samples of the part that are below the value at an index, plus 0 or 1.
     fn twice(&self, j: usize, plus: usize) -> u32
@@ -83,6 +85,7 @@ impl Search<'_> {
     }
 
     // What the part costs at the value at an index, and the number of the offset that leads there.
+    #[inline(always)]
     fn level(&self, j: usize) -> Trial
         requires { j < length self.now.table.now }
         ensures { let p = self.now.part in
@@ -97,6 +100,7 @@ impl Search<'_> {
 
     // The better of the levels at two indices, the second of them farther from the index of the depth. Where they are next to each other
     // as values too, the farther costs less.
+    #[inline(always)]
     fn better_level(&self, near: usize, far: usize) -> Trial
         requires { let T = self.now.table.now in
             (near < length T)
@@ -116,6 +120,7 @@ impl Search<'_> {
 
     // The first offset of least cost, and its cost. The turn of the cost is found by halving, upward or downward from the index, and the
     // best level is next to it.
+    #[inline(always)]
     pub(crate) fn best_offset(&self) -> Trial
         ensures { let p = self.now.part in
             TrialOf (offset_cost p.layers.samples.now (pattern_number p.marks) true self.now.table.now self.now.at) (2 * self.now.reach)

@@ -2,6 +2,7 @@
 ghost use Rattle.std.specs.Prelude.{◌≡◌, ℕ, ◌^◌, true, ◌<◌, ◌≤◌, length, get_or};
 ghost use Rattle.std.specs.Int.Bits.{bit_and, bit_xor};
 ghost use Rattle.std.specs.Int.Count.{ones};
+ghost use Rattle.arith.specs.Sum.{sum_to};
 ghost use Rattle.pattern.specs.Size.{greatest_samples};
 ghost use Rattle.pattern.specs.Words.{pattern_number};
 ghost use Rattle.choice.specs.Cost.{side_cost};
@@ -12,14 +13,16 @@ use crate::layers::LayerRows;
 use crate::sums::{SumRows, word_sum};
 use pattern::Pattern;
 
-// A block's samples, their layers and their sums.
+// A block's samples, their layers and their sums, and the sum of all of them.
 #[derive(Clone, Copy)]
 pub(crate) struct Layers<'a> {
     pub samples: &'a [u8],
     pub below: &'a LayerRows,
     pub sums: &'a SumRows,
+    pub total: u32,
     ghost bytes: { (k : ℕ) → get_or samples.now k 0 < 256 },
     ghost layered: { Layered samples.now below.now sums.now },
+    ghost whole: { total ≡ sum_to (λ k. get_or samples.now k 0) (length samples.now) },
 }
 
 impl<'a> Layers<'a> {
@@ -32,10 +35,11 @@ impl<'a> Layers<'a> {
             samples,
             below,
             sums,
+            total: samples.iter().map(|&sample| u32::from(sample)).sum(),
         }
     }
 
-    // How many samples of the block a pattern marks. That it marks none past the block's last is asked here, by `sum` and by `part`, and
+    // How many samples of the block a pattern marks. That it marks none past the block's last is asked here, by `sum` and by `parts`, and
     // no field says it: a pattern has room for 256 marks whatever the size, and how many samples the block has is known only with them.
     pub(crate) fn count(&self, p: Pattern) -> u32
         requires { pattern_number p < 2 ^ length self.now.samples.now }
@@ -87,17 +91,32 @@ impl<'a> Layers<'a> {
         self.below_at(256) ^ p
     }
 
-    // The part of the samples that a pattern marks, with so many marks.
-    pub(crate) fn part(&self, marks: Pattern, size: u32) -> Part<'a>
-        requires { (pattern_number marks < 2 ^ length self.now.samples.now) × (size ≡ ones (pattern_number marks)) }
-        ensures { (result.layers.samples.now ≡ self.now.samples.now) × (result.marks ≡ marks) }
+    // The part of the samples that a pattern does not mark, and that of those that it marks. Together they have the block's samples and
+    // the sum of these.
+    #[inline(always)]
+    pub(crate) fn parts(&self, marks: Pattern) -> (Part<'a>, Part<'a>)
+        requires { pattern_number marks < 2 ^ length self.now.samples.now }
+        ensures { let s = self.now.samples.now in
+            (result.0.layers.samples.now ≡ s)
+            × (pattern_number result.0.marks ≡ bit_xor (layer_at self.now.below.now 256) (pattern_number marks))
+            × (result.1.layers.samples.now ≡ s)
+            × (result.1.marks ≡ marks) }
     {
-        Part {
+        let size = self.count(marks);
+        let sum = self.sum(marks);
+        let unmarked = Part {
+            layers: *self,
+            marks: self.others(marks),
+            size: self.samples.len() as u32 - size,
+            sum: self.total - sum,
+        };
+        let marked = Part {
             layers: *self,
             marks,
             size,
-            sum: self.sum(marks),
-        }
+            sum,
+        };
+        (unmarked, marked)
     }
 }
 

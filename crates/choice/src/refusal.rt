@@ -9,7 +9,8 @@ ghost use Rattle.choice.specs.Refusal.{case_lengths_ok, words_ok, choose_refusal
 use crate::Input;
 use pattern::{PatternList, Refusal, check, size_ok, texture_ok};
 
-// Whether neighbours, original and texture have their lengths, and the count is allowed.
+// Whether neighbours, original and texture have their lengths, and the count is allowed. It asks for a bound on n, and takes no `Size`,
+// which would stand beside an input that has an n of its own.
 fn lengths_ok(input: Input) -> bool
     requires { input.n ≤ greatest_size }
     ensures { result ≡ case_lengths_ok (case_in input.entry) }

@@ -91,11 +91,7 @@ impl Block<'_> {
         let table = self.input.table;
         let marks = self.pattern_at(number);
         let k = side_case(self.size, marks, false);
-        let rest = self.layers.others(marks);
-        let size1 = self.layers.count(marks);
-        let size0 = self.input.original.len() as u32 - size1;
-        let part0 = self.layers.part(rest, size0);
-        let part1 = self.layers.part(marks, size1);
+        let (part0, part1) = self.layers.parts(marks);
         let search0 = Search {
             part: part0,
             table,

@@ -1,9 +1,7 @@
 -- `weigh` meets its contract: what it costs, and how many offsets are tried, is the sum over its partitions.
-use Prim.Native.Nat.{ℕ, ◌-◌, ◌*◌}
+use Prim.Native.Nat.{◌*◌}
 use mathlib.Core.Bool.{true, false}
-use mathlib.Core.Path.{◌≡◌, refl, sym, ap, ◌∙◌}
-use mathlib.Core.List.{List}
-use lib.ListN.{length}
+use mathlib.Core.Path.{◌≡◌, refl}
 use native.Mathlib.Omega.{arith}
 use Rattle.pattern.specs.Words.{pattern_number}
 use Rattle.choice.specs.Case.{reach_in_use, case_in}
@@ -13,7 +11,7 @@ use Rattle.choice.specs.Search.{trial_cost}
 use Rattle.choice.specs.Trial.{TrialOf}
 use Rattle.choice.proofs.AcceptLaws.{accepted}
 use Rattle.choice.proofs.CaseLaws.{other-case}
-use Rattle.choice.proofs.WeighLaws.{word_small, others-small, size-le, size-others, findable, trial-weighed, reach_few, reach-used}
+use Rattle.choice.proofs.WeighLaws.{word_small, findable, trial-weighed, reach_few, reach-used}
 use Rattle.choice.proofs.TrialLaws.{trial-low}
 use Rattle.choice.proofs.TriedLaws.{tried_here}
 use Rattle.choice.proofs.SearchLaws.{weighable, sides-at, both-sides, both-tried}
@@ -40,38 +38,16 @@ weighs c =
 side : (c : goal.After-side_case-k) → c.side_case-k.result ≡ side_case c.args.self.now.input.n (pattern_number c.pattern_at-marks.result) false
 side c = rw c.args.self.now.sized at c.side_case-k.ensures.0
 
-pub count-size1-requires : goal.count-size1-requires
-count-size1-requires c =
-    let g = (goal.at.count-size1-requires c).After-pattern_at-marks in
+pub parts-requires : goal.parts-requires
+parts-requires c =
+    let g = (goal.at.parts-requires c).After-pattern_at-marks in
     word_small _ _ _ _ _ _ (weighs g) _ _ _ (prepared g) c.args.self.now.layers.bytes
-
-pub overflow_sub-size0 : goal.overflow_sub-size0
-overflow_sub-size0 c =
-    let b = c.args.self.now in
-    let g = (goal.at.overflow_sub-size0 c).After-pattern_at-marks in
-    let same = ap (λ (l : List ℕ). length l) b.sampled in
-    omega (arith, size-le _ _ _ _ _ _ (weighs g) _ _ _ (prepared g) b.layers.bytes c.count-size1.ensures.0, same)
-
-pub part-part0-requires : goal.part-part0-requires
-part-part0-requires c =
-    let b = c.args.self.now in
-    let g = (goal.at.part-part0-requires c).After-pattern_at-marks in
-    let bytes = b.layers.bytes in
-    let same = ap (λ (l : List ℕ). length l - c.count-size1.result) b.sampled in (
-      others-small _ _ _ _ _ _ (weighs g) _ _ _ (prepared g) bytes c.others-rest.ensures,
-      sym same ∙ size-others _ _ _ _ _ _ (weighs g) _ _ _ (prepared g) bytes c.count-size1.ensures.0 c.others-rest.ensures,
-    )
-
-pub part-part1-requires : goal.part-part1-requires
-part-part1-requires c =
-    let g = (goal.at.part-part1-requires c).After-pattern_at-marks in
-    (word_small _ _ _ _ _ _ (weighs g) _ _ _ (prepared g) c.args.self.now.layers.bytes, c.count-size1.ensures.0)
 
 pub invariant_of-search0 : goal.invariant_of-search0
 invariant_of-search0 c =
     let g = (goal.at.invariant_of-search0 c).After-pattern_at-marks in
     let k = side (goal.at.invariant_of-search0 c).After-side_case-k in
-    record { findable = findable _ _ _ _ _ _ (weighs g) _ _ _ (prepared g) c.args.self.now.layers.bytes false k c.side_case-k.ensures.1 c.others-rest.ensures }
+    record { findable = findable _ _ _ _ _ _ (weighs g) _ _ _ (prepared g) c.args.self.now.layers.bytes false k c.side_case-k.ensures.1 c.parts.ensures.1 }
 
 pub invariant_of-search1 : goal.invariant_of-search1
 invariant_of-search1 c =
@@ -89,8 +65,8 @@ unmarked :
 unmarked c =
     let g = (goal.at.After-best_offset-unmarked c).After-pattern_at-marks in
     let k = side (goal.at.After-best_offset-unmarked c).After-side_case-k in
-    let t = rw (c.part-part0.ensures.0, c.part-part0.ensures.1) at c.best_offset-unmarked.ensures in
-    trial-weighed _ _ _ _ _ _ (weighs g) _ _ _ (prepared g) c.args.self.now.layers.bytes false k c.side_case-k.ensures.1 c.others-rest.ensures t
+    let t = rw c.parts.ensures.0 at c.best_offset-unmarked.ensures in
+    trial-weighed _ _ _ _ _ _ (weighs g) _ _ _ (prepared g) c.args.self.now.layers.bytes false k c.side_case-k.ensures.1 c.parts.ensures.1 t
 
 marked :
     (c : goal.After-best_offset-marked)
@@ -100,7 +76,7 @@ marked :
     TrialOf (trial_cost C (pattern_number c.pattern_at-marks.result) true) (2 * reach_in_use C) t.number t.cost
 marked c =
     let g = (goal.at.After-best_offset-marked c).After-pattern_at-marks in
-    let t = rw (c.part-part1.ensures.0, c.part-part1.ensures.1) at c.best_offset-marked.ensures in
+    let t = rw (c.parts.ensures.2, c.parts.ensures.3) at c.best_offset-marked.ensures in
     trial-weighed _ _ _ _ _ _ (weighs g) _ _ _ (prepared g) c.args.self.now.layers.bytes true (other-case _ _ (side (goal.at.After-best_offset-marked c).After-side_case-k)) (omega arith) refl t
 
 pub tried-tried0-requires : goal.tried-tried0-requires
