@@ -1,6 +1,5 @@
 // The neighbours of a block, read from the sheet's samples.
-ghost use Rattle.std.specs.Prelude.{◌≡◌, ◌≤◌};
-ghost use Rattle.pattern.specs.Size.{greatest_size};
+ghost use Rattle.std.specs.Prelude.{◌≡◌};
 ghost use Rattle.sheet_grid.specs.Counts.{left_count, above_count, top_count, left_first, top_first, counted};
 ghost use Rattle.sheet.specs.Runs.{sample_of, beside, neighbour_of, Is};
 
@@ -27,19 +26,18 @@ fn beside(run: Option<Run>, other: Option<Run>, i: usize) -> u8
     }
 }
 
-// Neighbour i of a block by its two runs: the left run, then the top run.
-fn neighbour(n: usize, left: Option<Run>, top: Option<Run>, i: usize) -> u8
-    requires { n ≤ greatest_size }
-    ensures { result ≡ neighbour_of n left.entry top.entry i }
-{
-    if i < 2 * n {
-        beside(left, top, i)
-    } else {
-        beside(top, left, i - 2 * n)
-    }
-}
-
 impl Spot {
+    // Neighbour i of the block by its two runs: the left run, then the top run.
+    fn neighbour(self, left: Option<Run>, top: Option<Run>, i: usize) -> u8
+        ensures { result ≡ neighbour_of self.n left.entry top.entry i }
+    {
+        if i < 2 * self.n {
+            beside(left, top, i)
+        } else {
+            beside(top, left, i - 2 * self.n)
+        }
+    }
+
     // The samples present in the top run of a block with a row above: 2n, and n at the sheet's right edge.
     fn above_count(self) -> usize
         ensures { result ≡ above_count self.n self.width self.x }
@@ -89,12 +87,11 @@ impl<'a> View<'a> {
         ensures { let S = self.entry.spot in
             result.now ≡ counted S.n S.width S.x S.y (left_count S.n S.x) (top_count S.n S.width S.x S.y) self.entry.samples.now }
     {
-        let n = self.spot.n;
         let left = self.left_run();
         let top = self.top_run();
-        let near = &mut near[..4 * n];
+        let near = &mut near[..4 * self.spot.n];
         for (i, place) in near.iter_mut().enumerate() {
-            *place = neighbour(n, left, top, i);
+            *place = self.spot.neighbour(left, top, i);
         }
         near
     }

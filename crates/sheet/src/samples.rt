@@ -11,25 +11,27 @@ use crate::spot::{Spot, View};
 use block::{Block, CAPACITY, write_block};
 use pattern::SAMPLES;
 
-// The n samples from a place on, as a row of a block.
-fn row_at(samples: &[u8], n: usize, at: usize) -> [u8; CAPACITY]
-    requires { (n ≤ capacity) × (at + n ≤ length samples.now) }
-    ensures { result ≡ upto capacity n (λ i. get_or samples.now (at + i) 0) 0 }
-{
-    let mut row = [0u8; CAPACITY];
-    row[..n].copy_from_slice(&samples[at..at + n]);
-    row
-}
-
 impl View<'_> {
+    // Row r of the block.
+    fn row(self, r: usize) -> [u8; CAPACITY]
+        requires { r < self.spot.n }
+        ensures { let S = self.entry.spot in
+            result ≡ upto capacity S.n (λ i. get_or self.entry.samples.now ((S.y + r) * S.width + S.x + i) 0) 0 }
+    {
+        let Spot { n, width, x, y, .. } = self.spot;
+        let at = (y + r) * width + x;
+        let mut row = [0u8; CAPACITY];
+        row[..n].copy_from_slice(&self.samples[at..at + n]);
+        row
+    }
+
     // The block of the samples.
     fn cut(self) -> Block
         ensures { let S = self.entry.spot in result ≡ cut_block S.n S.width S.x S.y self.entry.samples.now }
     {
-        let Spot { n, width, x, y, .. } = self.spot;
         let mut b = [[0u8; CAPACITY]; CAPACITY];
-        for (r, row) in b[..n].iter_mut().enumerate() {
-            *row = row_at(self.samples, n, (y + r) * width + x);
+        for (r, row) in b[..self.spot.n].iter_mut().enumerate() {
+            *row = self.row(r);
         }
         b
     }

@@ -26,7 +26,7 @@ loop-r-preserved c =
     (λ k. get_or s (place S.width S.x (S.y + r) + k) 0) (λ k. get_or s (place S.width (S.x + k) (S.y + r)) 0) 0
     (λ k l. ap (λ (p : ℕ). get_or s p 0) (omega arith))
     in
-    (omega arith, fill-by S.n _ (cut_row S.n S.width S.x S.y s) (replicate capacity 0) i.1 (c.row_at.ensures ∙ row) more)
+    (omega arith, fill-by S.n _ (cut_row S.n S.width S.x S.y s) (replicate capacity 0) i.1 (c.row.ensures ∙ row) more)
 
 pub returns : goal.returns
 unfolding block_by
