@@ -183,3 +183,6 @@ module _ (n : ℕ) (s o t : List ℕ) (R : ℕ) (x : List ℕ) where
   -- what C gets is the record of least cost
   pub least_built : {r : Choice} → r ≡ choice_struct (choose_answer (built_case n s o t R x)) → LeastChoice (built_case n s o t R x) r
   least_built e = subst (LeastChoice (built_case n s o t R x)) (sym e) (least-told (built_case n s o t R x))
+
+-- what the pattern of an entry cites: the listed patterns fit the block
+pub ruleset fit = (entry-refusal)

@@ -203,7 +203,7 @@ fn listed_pattern(n: usize, entry: u32) -> Result<pattern::Pattern, Refusal>
 }
 
 // The pattern of a kind and an entry: of the wedgelet list for n, or the contour of the texture; or refusal 1, 2, 7, 21 or 6.
-#[tactic(auto, unfolding(crate::specs::Built::pattern_answer, crate::specs::Built::pattern_refusal))]
+#[tactic(auto, using(crate::proofs::Built::fit), unfolding(crate::specs::Built::pattern_answer, crate::specs::Built::pattern_refusal))]
 fn pattern_of(n: usize, kind: u32, entry: u32, texture: &[u8]) -> Result<pattern::Pattern, Refusal>
     ensures { told pattern_number result ≡ pattern_answer n kind entry texture.now }
 {

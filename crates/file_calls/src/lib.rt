@@ -3,8 +3,7 @@
 // count.
 #![tactic(auto)]
 
-ghost use Rattle.std.specs.Prelude.{◌≡◌, ◌≤◌, length};
-ghost use Rattle.depth_table.specs.Table.{most_values};
+ghost use Rattle.std.specs.Prelude.{◌≡◌, length};
 ghost use Rattle.pattern.specs.Refusal.{told};
 ghost use Rattle.pattern.specs.Words.{patterns_of};
 ghost use Rattle.depth_bench.specs.Structs.{choice_struct};
@@ -14,7 +13,7 @@ ghost use Rattle.sheet.specs.State.{state_of};
 ghost use Rattle.record.specs.Lent.{record_at};
 ghost use Rattle.record_file.specs.Writing.{source_of, write_answer, write_after};
 ghost use Rattle.record_file.specs.Reading.{aids_of};
-ghost use Rattle.record_read.specs.Back.{lent_of, back_told, before_zeros};
+ghost use Rattle.record_read.specs.Back.{lent_of, back_told};
 ghost use Rattle.file_calls.specs.Structs.{CallReads, file_read_of, file_written_of};
 
 use depth_bench::Choice;
@@ -47,16 +46,6 @@ pub struct FileWritten {
     pub length: usize,
 }
 
-// The values of a table before zeros.
-fn filled(table: &[u8]) -> [u8; VALUES]
-    requires { length table.now ≤ most_values }
-    ensures { result ≡ before_zeros table.now }
-{
-    let mut filled = [0u8; VALUES];
-    filled[..table.len()].copy_from_slice(table);
-    filled
-}
-
 // What `record_read::read` answers, as C gets it.
 impl From<Result<FileBack, LineRefusal>> for FileRead {
     ghost from_gives = { λ answer r. r ≡ file_read_of (back_told answer) };
@@ -64,7 +53,7 @@ impl From<Result<FileBack, LineRefusal>> for FileRead {
     fn from(answer: Result<FileBack, LineRefusal>) -> FileRead {
         match answer {
             Ok(back) => {
-                let table = filled(back.table.as_slice());
+                let table = back.table;
                 FileRead {
                     refusal: 0,
                     line: 0,
@@ -72,7 +61,7 @@ impl From<Result<FileBack, LineRefusal>> for FileRead {
                     width: back.sheet.width,
                     height: back.sheet.height,
                     placed: back.sheet.placed,
-                    values: back.table.len() as u32,
+                    values: back.values,
                     table,
                 }
             }

@@ -15,9 +15,6 @@ use Rattle.arith.proofs.CheckLaws.{holds, passes, kept}
 use Rattle.arith.proofs.LeastLaws.{last-or-below}
 use Rattle.depth_table.specs.Table.{table_ok}
 use Rattle.depth_table.proofs.TableLaws.{table-counts}
-use Rattle.pattern.specs.Refusal.{number_of}
-use Rattle.pattern.specs.declared.refusals.Refusal.{Refusal}
-use Rattle.pattern.specs.declared.refusals.Refusal.TheVariants as reason
 use Rattle.pattern.specs.Size.{size_ok}
 use Rattle.pattern.specs.Answer.{count_ok}
 use Rattle.pattern.proofs.AnswerLaws.{count-is, is-count}
@@ -29,11 +26,6 @@ use Rattle.sheet.specs.State.{blocks_of, sides_ok}
 use Rattle.record_file.proofs.MeaningLaws.{record-small}
 use Rattle.record_file.specs.Writing.{Source, Small, HeadFits, first, first_to, space_for, write_lengths_ok, written_refusal}
 use Rattle.record_file.specs.Writing.{write_checks, write_refusal}
-
--- a refusal's number is not 0
-pub number_some : (r : Refusal) → 1 ≤ number_of r
-number_some reason.Size = omega arith
-number_some _ = omega arith
 
 -- ---- the first refusal of several
 

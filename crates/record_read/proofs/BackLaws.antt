@@ -178,15 +178,19 @@ module _ (A : Aids) (f : Front) (sound : FrontSound (length A.texture) f) where
         → length samples ≡ area f.sheet → length drawn ≡ length samples → length kept ≡ blocks_of f.sheet
         → {i j : ℕ} {to : List ℕ} {to' : List (List ℤ)} → i ≡ area f.sheet → j ≡ blocks_of f.sheet
         → to ≡ take i (drawn ++ more) → to' ≡ take j (kept ++ more')
-        → Leaves A (sheet_lines A f) before (record { refusal = 0; line = 0; sheet = S; values = length (table_of f); table = before_zeros (table_of f) })
+        → {values : ℕ} {table : List ℕ} → values ≡ length (table_of f) → table ≡ before_zeros (table_of f)
+        → Leaves A (sheet_lines A f) before (record { refusal = 0; line = 0; sheet = S; values = values; table = table })
         (lent_of (to ++ drop i before.samples) (to' ++ drop j before.records))
-    rest-read {samples = samples} {drawn} {kept} {S} more more' before from all long same whole e m d k =
+    rest-read {samples = samples} {drawn} {kept} {S} more more' before from all long same whole e m d k v t =
         let q = subst (λ (r : Reading). ReadsAll I r samples (drawn, kept) (Ok S)) from all in
         let x = block_lines A (length (table_of f)) (begun_at f) in
         let p = lines-parts (λ l s. read (placed_all M f.sheet samples l) s) x (drawn, kept) [] (sym (rw lines_are at q.told)) in
-        rw (d, k, e, m, take_at drawn more (area f.sheet) (same ∙ long), take_at kept more' (blocks_of f.sheet) whole)
+        rw (v, t, d, k, e, m, take_at drawn more (area f.sheet) (same ∙ long), take_at kept more' (blocks_of f.sheet) whole)
         (rest-of samples before long q.done p.value p.rest p.first (sym (same-value p.then)) whole)
 
 -- the first k places of an array of n
 pub places-in : {A : Type 0} (d : A) (k m n : ℕ) → k ≡ m → m ≤ n → length (take k (replicate n d)) ≡ m
 places-in {A} d k m n e h = length-take-le k (replicate n d) (omega (arith, e, h, length-replicate {A = A} n d)) ∙ e
+
+-- what reading cites, of the lengths and of the lines before the records
+pub ruleset opened = (read_short, read-passed, all-refused, file-is)

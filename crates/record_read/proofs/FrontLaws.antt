@@ -16,8 +16,8 @@ use Rattle.record_read.specs.Told.{head_fields}
 use Rattle.record_read.specs.Step.{FrontRead}
 
 -- the size line's count is at most that of a table
-pub head_few : (texture : ℕ) (s : List ℕ) (z : SizeFields) (t : List ℕ) → read z t ≡ head_lines texture s → z.values ≤ most_values
-head_few texture s z t e = (size_small texture z (head-sound texture s z t (sym e))).values
+pub head_few : (texture : ℕ) (s : List ℕ) (h : Head) (t : List ℕ) → read (head_fields h) t ≡ head_lines texture s → h.values ≤ most_values
+head_few texture s h t e = (size_small texture (head_fields h) (head-sound texture s (head_fields h) t (sym e))).values
 
 -- the title after the values
 title-bad : {A : Type 0} (j : ℕ) (a : A) {n k : ℕ} (p : Parsed (Unit {0})) → refused_at n k ≡ line j p no_meaning read → refused_at n k ≡ line j p no_meaning (λ _ s. read a s)

@@ -9,7 +9,7 @@ use Rattle.depth_table.specs.Table.{most_values}
 use Rattle.pattern.specs.Answer.{count_ok, texture_ok}
 use Rattle.pattern.specs.Refusal.{number_of, checked}
 use Rattle.pattern.specs.Size.{size_ok, each_size, for_size}
-use Rattle.pattern.specs.Words.{whole_patterns, patterns_of}
+use Rattle.pattern.specs.Words.{whole_patterns}
 use Rattle.pattern.specs.declared.refusals.Refusal.{Refusal}
 use Rattle.sheet.specs.Checks.{new_refusal}
 use Rattle.sheet.specs.State.{state_of, sides_ok, new_answer}
@@ -18,21 +18,17 @@ use Rattle.record_text.specs.declared.fields.SizeFields.{SizeFields}
 use Rattle.pattern.proofs.WordLaws.{length-patterns}
 use Rattle.record_text.specs.Parsed.{Parsed, Parser, bad_form, found}
 use Rattle.record_text.specs.Lines.{Lined, refused_at, read, judged, line, many_lines}
-use Rattle.record_file.proofs.RefusalLaws.{number_some}
+use Rattle.pattern.proofs.AnswerLaws.{number-some}
 use Rattle.record_file.specs.Reading.{aids_of, lists_ok, size_meaning, value_meaning}
 use Rattle.record_text.proofs.LinesLaws.{refused-read, line-parts}
 use Rattle.record_text.proofs.LoopLaws.{Reading, reading-start, reading-more, reading-bad, reading-refused, reading-end}
-
--- the whole patterns of lent words
-pub list_counts : (n : ℕ) (words : List ℕ) → length (patterns_of n words) ≡ whole_patterns n (length words)
-list_counts n words = length-patterns n words
 
 -- the counts are set against the whole patterns of the lent words
 pub lists-lent :
     (words4 words8 words16 : List ℕ) (count4 count8 count16 : ℕ) (texture : List ℕ)
     → each_size (λ n. count_ok (whole_patterns n (for_size n (length words4) (length words8) (length words16))) (for_size n count4 count8 count16))
     ≡ lists_ok (aids_of words4 count4 words8 count8 words16 count16 texture)
-lists-lent words4 words8 words16 count4 count8 count16 texture = rw (list_counts 4 words4, list_counts 8 words8, list_counts 16 words16)
+lists-lent words4 words8 words16 count4 count8 count16 texture = rw (length-patterns 4 words4, length-patterns 8 words8, length-patterns 16 words16)
 
 -- ---- a value's line
 
@@ -127,7 +123,7 @@ module _ (texture : ℕ) (z : SizeFields) where
   -- one of the first two refuses, or neither does
   pub size_sides : (r : Refusal) → number_of r ≡ new_refusal z.n z.width z.height → number_of r ≡ size_meaning texture z
   unfolding size_meaning new_refusal
-  size_sides r e = e ∙ sym (kept sizes (refusal others 0) (λ q. omega (arith, number_some r, e, q)))
+  size_sides r e = e ∙ sym (kept sizes (refusal others 0) (λ q. number-some r (e ∙ q)))
 
   pub size_rest : 0 ≡ new_refusal z.n z.width z.height → size_meaning texture z ≡ refusal others 0
   unfolding size_meaning new_refusal
@@ -175,3 +171,6 @@ stored_all l old e h = e ∙ rw (drop_of_length-le old h, append-nil l)
 
 pub loop_read : {A : Type 0} {x : Lined A} {l t : A} {s : List ℕ} → x ≡ read l s → t ≡ l → read t s ≡ x
 loop_read {s = s} e q = ap (λ (y : _). read y s) q ∙ sym e
+
+-- what judging the lists' counts cites
+pub ruleset counts = (length-patterns)

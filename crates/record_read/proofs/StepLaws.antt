@@ -214,3 +214,6 @@ module _ (I : PlaceInput) (from : Reading) (samples₀ : List ℕ) (records₀ :
           go [] q (Err e) h = refused-read h
           go (b ∷ s) q (Ok u) h = refused-read (sym h)
           go (b ∷ s) q (Err e) h = record { told = rw (all, q, ← end-line) (same-refusal (sym h)); done = tt }
+
+-- what reading block by block cites
+pub ruleset turns = (turned-start, turned-begun, turned_more)

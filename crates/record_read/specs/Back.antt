@@ -70,8 +70,7 @@ before_zeros table = sets (replicate most_values 0) 0 table
 
 -- what the code's answer says
 abbrev pub back_told : Result FileBack LineRefusal → Back
-back_told (Ok b) =
-    record { refusal = 0; line = 0; sheet = b.sheet; values = length b.table.items; table = before_zeros b.table.items }
+back_told (Ok b) = record { refusal = 0; line = 0; sheet = b.sheet; values = b.values; table = b.table }
 back_told (Err e) = refused_back (number_of e.refusal) e.line
 
 -- the answer: the number of a refusal and its line, or the finished state and the table, its values before zeros, with its count

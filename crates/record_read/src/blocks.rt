@@ -57,6 +57,7 @@ fn check_end(from: Reading) -> Result<(), LineRefusal>
 
 // The lines of all blocks' records, and the end of the bytes after them: each record is placed on the samples and stored. The finished
 // state is answered.
+#[tactic(auto, using(crate::proofs::StepLaws::turns))]
 pub(crate) fn read_blocks(
     from: Reading,
     samples: &mut [u8],

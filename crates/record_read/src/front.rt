@@ -30,6 +30,7 @@ fn read_head(bytes: &[u8], texture: usize) -> Result<(Head, &[u8]), LineRefusal>
 }
 
 // The lines before the records.
+#[tactic(auto, using(crate::proofs::FrontLaws::head_few))]
 pub(crate) fn read_front(bytes: &[u8], texture: usize) -> Result<Front, LineRefusal>
     ensures { FrontIs texture bytes.now result }
 {

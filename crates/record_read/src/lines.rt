@@ -78,6 +78,7 @@ pub(crate) fn value_line(bytes: &[u8], low: u32, line: u32) -> Result<(u8, &[u8]
 }
 
 // The lines of a table's values, from line 4 on, and the bytes after them. The loop counts the lines, since a refusal names its own.
+#[tactic(auto, using(crate::proofs::ReadLaws::going_more))]
 pub(crate) fn read_values(
     bytes: &[u8],
     values: u32,

@@ -1,13 +1,13 @@
 // Reading a record file.
 ghost use Rattle.std.specs.Prelude.{◌≡◌, ◌≤◌, length};
+ghost use Rattle.depth_table.specs.Table.{most_values};
 ghost use Rattle.record_file.specs.Reading.{aids_in, lists_ok, read_lengths_ok};
-ghost use Rattle.record_read.specs.Back.{lent_of, Leaves, Reads, back_told};
+ghost use Rattle.record_read.specs.Back.{lent_of, before_zeros, Leaves, Reads, back_told};
 ghost use Rattle.record_read.specs.Step.{FrontSound, Counted, HasRoom, sheet_lines};
 
 use crate::blocks::{Reading, read_blocks};
 use crate::front::{Front, read_front};
 use crate::lines::LineRefusal;
-use arrayvec::ArrayVec;
 use depth_table::VALUES;
 use pattern::{GREATEST_SIZE, Refusal};
 use record_file::ReadInput;
@@ -19,15 +19,27 @@ const SMALL_SAMPLES: usize = 1024;
 // The most blocks that it has: a block has at least 16 samples.
 const SMALL_BLOCKS: usize = 64;
 
-// What reading answers: the finished state, and the table.
-#[derive(Clone, Drop)]
+// What reading answers: the finished state, and the table, its values before zeros, with their number. They stand in an array beside their
+// number, since what is answered can be copied, and an `ArrayVec` can't.
+#[derive(Clone, Copy)]
 pub struct FileBack {
     pub sheet: Sheet,
-    pub table: ArrayVec<u8, VALUES>,
+    pub values: u32,
+    pub table: [u8; VALUES],
+}
+
+// The values of a table before zeros.
+fn filled(table: &[u8]) -> [u8; VALUES]
+    requires { length table.now ≤ most_values }
+    ensures { result ≡ before_zeros table.now }
+{
+    let mut filled = [0u8; VALUES];
+    filled[..table.len()].copy_from_slice(table);
+    filled
 }
 
 // Whether each list's count is one that its whole patterns allow.
-#[tactic(auto, using(crate::proofs::ReadLaws::list_counts))]
+#[tactic(auto, using(crate::proofs::ReadLaws::counts))]
 fn lists_ok(input: ReadInput) -> bool
     ensures { result ≡ lists_ok (aids_in input.entry) }
 {
@@ -76,12 +88,14 @@ fn read_with<const SAMPLES: usize, const BLOCKS: usize>(
     records[..blocks].copy_from_slice(&kept[..blocks]);
     Ok(FileBack {
         sheet,
-        table: front.table,
+        values: front.table.len() as u32,
+        table: filled(front.table.as_slice()),
     })
 }
 
 // Reads a file with a list for each size: its records, and the samples that placing them in turn on an empty sheet gives, come into the
 // lent slices, and the finished state and the table are answered; or a refusal and its line, and nothing is altered.
+#[tactic(auto, using(crate::proofs::BackLaws::opened))]
 pub fn read(
     bytes: &[u8],
     input: ReadInput,

@@ -1,5 +1,5 @@
 -- The first refusal of the records, as the code looks for it.
-use Prim.Native.Nat.{ℕ, zero, suc, ◌+◌, ◌≤◌, ◌<◌}
+use Prim.Native.Nat.{ℕ, zero, suc, ◌+◌, ◌<◌}
 use mathlib.Core.Path.{◌≡◌, refl, sym, ◌∙◌, ap}
 use mathlib.Core.Bool.{Bool, true, cond}
 use mathlib.Core.List.{List}
@@ -16,7 +16,7 @@ use Rattle.record.specs.Lent.{record_at}
 use Rattle.record.specs.Meaning.{Named, record_meaning}
 use Rattle.record.proofs.MeaningLaws.{meaning-given, meaning-refused}
 use Rattle.arith.proofs.LeastLaws.{last-or-below}
-use Rattle.record_file.proofs.RefusalLaws.{number_some}
+use Rattle.pattern.proofs.AnswerLaws.{number-some}
 use Rattle.record_file.specs.Writing.{first, first_to, written_refusal}
 
 -- with one record more it is the one so far, or where there is none the next record's
@@ -41,12 +41,12 @@ module _ (n : ℕ) (l : List ℕ) (count : ℕ) {lent : Bool} (values : ℕ) (r 
   pub record_given : {m : Named} → given m ≡ record_meaning n l count lent values r → 0 ≡ written_refusal n l count values r
   record_given e = sym (meaning-given n l count true values r (rw t at e)).0
 
-first-same : (x y : ℕ) → 1 ≤ x → x ≡ first x y
-first-same zero y e = absurd (omega arith)
+first-same : (x y : ℕ) → (x ≡ 0 → ⊥) → x ≡ first x y
+first-same zero y e = absurd (e refl)
 first-same (suc x) y e = refl
 
 -- the first of m refusals is at i, where none is before
-found : (f : ℕ → ℕ) (m i : ℕ) → i < m → first_to f i ≡ 0 → 1 ≤ f i → f i ≡ first_to f m
+found : (f : ℕ → ℕ) (m i : ℕ) → i < m → first_to f i ≡ 0 → (f i ≡ 0 → ⊥) → f i ≡ first_to f m
 unfolding first_to
 found f zero i h z e = absurd (omega arith)
 found f (suc m) i h z e =
@@ -72,7 +72,7 @@ module _ (n : ℕ) (l : List ℕ) (count values : ℕ) (records : List (List ℤ
 
   -- the next is: it is the first of all
   pub first_found :
-      (i : ℕ) → (refusals i ≡ refusals i) × (i < length records → first_to refusals i ≡ 0 → 1 ≤ refusals i → refusals i ≡ first_to refusals (length records))
+      (i : ℕ) → (refusals i ≡ refusals i) × (i < length records → first_to refusals i ≡ 0 → (refusals i ≡ 0 → ⊥) → refusals i ≡ first_to refusals (length records))
   first_found i = (refl, λ h z e. found refusals (length records) i h z e)
 
 -- refusals that are the same
@@ -82,4 +82,4 @@ first_ext f g zero h = refl
 first_ext f g (suc m) h = rw (first_ext f g m (λ i l. h i (omega arith)), h m (omega arith)) refl
 
 -- what judging the records one by one cites
-pub ruleset in_order = (first_more, first_found, number_some)
+pub ruleset in_order = (first_more, first_found, number-some)

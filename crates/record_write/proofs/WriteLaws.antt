@@ -1,6 +1,6 @@
 -- The steps of writing: one line more in a loop, and the whole text part by part.
 use Prim.Native.Nat.{ℕ, ◌+◌, ◌*◌, ◌≤◌, ◌<◌}
-use mathlib.Core.Path.{◌≡◌, refl, sym, ◌∙◌, ap, subst}
+use mathlib.Core.Path.{◌≡◌, refl, sym, subst}
 use mathlib.Core.Bool.{true}
 use mathlib.Core.List.{List, append_assoc}
 use native.Mathlib.Omega.{arith}
@@ -9,12 +9,15 @@ use lib.ListN.{length, get_or, length-append}
 use lib.Seq.{sets}
 use Rattle.arith.specs.Checks.{refused, given}
 use Rattle.arith.specs.Lists.{list_of}
-use Rattle.arith.proofs.CheckLaws.{answer-refused, answer-given, lent-refused, lent-given}
+use Rattle.arith.proofs.CheckLaws.{answer-given, lent-refused, lent-given, refused-by}
 use Rattle.arith.proofs.ListLaws.{list_of-own}
 use Rattle.record_print.specs.declared.cursor.Cursor.{Cursor}
 use Rattle.record.specs.declared.Record.{Record}
 use Rattle.record_text.specs.declared.fields.SizeFields.{SizeFields}
 use Rattle.sheet.specs.declared.Sheet.{Sheet}
+use Rattle.pattern.specs.Refusal.{number_of}
+use Rattle.pattern.specs.declared.refusals.Refusal.{Refusal}
+use Rattle.pattern.proofs.AnswerLaws.{number-some}
 use Rattle.record_text.specs.Numeral.{numeral_end}
 use Rattle.record_text.specs.Line.{size_title, depth_title, record_title, size_text, value_text, record_text}
 use Rattle.record_text.specs.Lines.{texts}
@@ -84,16 +87,15 @@ values_length t h =
     (texts-length value_text (λ j. get_or t j 0) 4 (length t) (values-short t h (length t)))
 
 module _
-    (S : Sheet) (t : List ℕ) (m : ℕ) (byte : (i : ℕ) → get_or t i 0 < 256) (fits : HeadFits S (length t)) {l₀ l₁ : List ℕ} {a : ℕ} (space : space_for (length t) m ≤ length l₀)
+    (S : Sheet) (t : List ℕ) (m : ℕ) (fits : HeadFits S (length t)) {l₀ l₁ : List ℕ} {a : ℕ} (space : space_for (length t) m ≤ length l₀)
     (head : Written l₀ l₁ 0 (head_text S.n S.width S.height (length t)) a)
   where
     pub room-values : a + 4 * length t ≤ length l₁
     room-values = omega (arith, head.place, written-length head, head-short S (length t) fits)
 
-    module _ {l₂ : List ℕ} {b : ℕ} (values : Written l₁ l₂ a (texts value_text t) b) where
+    module _ {l₂ : List ℕ} {b : ℕ} (values : Written l₁ l₂ a (texts value_text t) b) (short : b ≤ a + 4 * length t) where
       pub room-title : b + length record_title ≤ length l₂
-      room-title =
-          omega (arith, head.place, values.place, written-length head, written-length values, head-short S (length t) fits, values_length t byte)
+      room-title = omega (arith, head.place, written-length head, written-length values, head-short S (length t) fits)
 
       module _ {l₃ : List ℕ} {c : ℕ} (title : Written l₂ l₃ b record_title c) where
         pub room-records : c + 32 * m ≤ length l₃
@@ -101,13 +103,11 @@ module _
             omega (
               arith,
               head.place,
-              values.place,
               title.place,
               written-length head,
               written-length values,
               written-length title,
               head-short S (length t) fits,
-              values_length t byte,
             )
 
         pub file-written :
@@ -119,21 +119,25 @@ module _
 
 -- ---- the answer
 
-module _ (W : Source) (list : List ℕ) (count records : ℕ) (old : List ℕ) where
-  pub write-refused :
-      {x : ℕ} → x ≡ write_refusal W list count records (length old) → (x ≡ 0 → ⊥)
-      → (refused x ≡ write_answer W list count records (length old)) × (old ≡ write_after W list count records old)
-  unfolding write_answer write_after
-  write-refused {x} e h = (
-    ap refused e ∙ answer-refused (write_refusal W list count records (length old)) (length (written_text W)) (λ z. h (e ∙ z)),
-    lent-refused (write_refusal W list count records (length old)) (sets old 0 (written_text W)) old (λ z. h (e ∙ z)),
-  )
+module _ (W : Source) (list : List ℕ) (count records : ℕ) where
+  -- a refusal is answered, and nothing is written
+  pub refusal-answered :
+      (space : ℕ) (r : Refusal) → number_of r ≡ write_refusal W list count records space → write_answer W list count records space ≡ refused (number_of r)
+  unfolding write_answer
+  refusal-answered space r e = sym (refused-by (length (written_text W)) e (number-some r))
 
-  pub write-given :
-      {new : List ℕ} {r : ℕ} → write_refusal W list count records (length old) ≡ 0 → Written old new 0 (written_text W) r
-      → (given r ≡ write_answer W list count records (length old)) × (new ≡ write_after W list count records old)
-  unfolding write_answer write_after
-  write-given {new} {r} e w = (
-    ap given (let e : r ≡ length (written_text W) = omega (arith, w.place) in e) ∙ answer-given (write_refusal W list count records (length old)) (length (written_text W)) e,
-    w.lent ∙ lent-given (write_refusal W list count records (length old)) (sets old 0 (written_text W)) old e,
-  )
+  pub refusal-left : (old : List ℕ) → (write_refusal W list count records (length old) ≡ 0 → ⊥) → write_after W list count records old ≡ old
+  unfolding write_after
+  refusal-left old h = sym (lent-refused (write_refusal W list count records (length old)) (sets old 0 (written_text W)) old h)
+
+  -- where nothing is refused, the text's length is answered, and the text is written
+  pub length-answered : (space : ℕ) → 0 ≡ write_refusal W list count records space → write_answer W list count records space ≡ given (length (written_text W))
+  unfolding write_answer
+  length-answered space e = sym (answer-given (write_refusal W list count records space) (length (written_text W)) (sym e))
+
+  pub text-left : (old : List ℕ) → 0 ≡ write_refusal W list count records (length old) → write_after W list count records old ≡ sets old 0 (written_text W)
+  unfolding write_after
+  text-left old e = sym (lent-given (write_refusal W list count records (length old)) (sets old 0 (written_text W)) old (sym e))
+
+-- what writing cites
+pub ruleset answered = (refusal-answered, refusal-left, number-some, length-answered, text-left)

@@ -2,6 +2,7 @@
 #![tactic(auto)]
 
 mod checks;
+mod source;
 mod writing;
 
 pub use writing::write;

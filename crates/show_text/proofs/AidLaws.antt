@@ -73,6 +73,6 @@ module _ (n : ℕ) (old new : List ℕ) (enough : most_words ≤ length old) (af
   list-none (Err x) e q = list-refused (number_of x) e
 
 -- a file without a size has none
-pub none-for : no_aids ≡ aids_for 0
+pub none_for : no_aids ≡ aids_for 0
 unfolding aids_for
-none-for = refl
+none_for = refl

@@ -86,10 +86,10 @@ module _ (width height : ℕ) (w : width ≤ 128) (h : height ≤ 128) where
       written_then a (written_then b d)
 
   -- room for the rows after them
-  pub rows-room :
+  pub rows_room :
       {l₀ l₁ : List ℕ} {p : ℕ} → 27 + 4 * (width * height) ≤ length l₀ → Written l₀ l₁ 0 (sides_text width height) p
       → (width * height ≤ most_samples) × (p + 4 * (width * height) ≤ length l₁)
-  rows-room r a = (samples-few width height w h, omega (arith, sides-short, a.place, written-length a))
+  rows_room r a = (samples-few width height w h, omega (arith, sides-short, a.place, written-length a))
 
 -- the whole text of a sheet
 pub sheet-written :

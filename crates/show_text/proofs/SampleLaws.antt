@@ -1,7 +1,7 @@
 -- The samples of a file's sheet are bytes, and so the text that is shown of it has at most 27 + 4 * 16,384 bytes.
 use Prim.Native.Nat.{ℕ, zero, suc, ◌-◌, ◌*◌, ◌/◌, ◌%◌, ◌≤◌, ◌<◌}
 use mathlib.Core.Path.{◌≡◌, refl}
-use mathlib.Core.Bool.{Bool, true, false, cond}
+use mathlib.Core.Bool.{true}
 use mathlib.Core.List.{List}
 use native.Mathlib.Decide.{dec_lt}
 use native.Mathlib.Nat.{mul-le-mul}
@@ -12,6 +12,7 @@ use Rattle.arith.proofs.Bools.{both_of}
 use Rattle.arith.proofs.ListLaws.{list_of-below}
 use Rattle.depth_table.specs.Table.{table_ok}
 use Rattle.prediction.proofs.BlockLaws.{predicted-bytes}
+use Rattle.prediction.proofs.SideLaws.{pick-byte}
 use Rattle.choice.specs.Record.{pattern_of, prediction_of}
 use Rattle.record.specs.declared.Record.{Record}
 use Rattle.sheet.specs.declared.Sheet.{Sheet}
@@ -40,13 +41,9 @@ zeros-bytes k i = go (dec_lt i k)
     go (yes l) = rw (get_or-replicate {A = ℕ} k i 0 0 l) (omega arith)
     go (no l) = rw (get_or-eq_default {A = ℕ} (replicate k 0) 0 {n = i} (omega (arith, length-replicate {A = ℕ} k 0))) (omega arith)
 
-either-byte : (b : Bool) (x y : ℕ) → x < 256 → y < 256 → cond b x y < 256
-either-byte true x y h k = h
-either-byte false x y h k = k
-
 written-bytes : (n w x y : ℕ) (b s : List ℕ) → Bytes b → Bytes s → Bytes (written n w x y b s)
 unfolding written
-written-bytes n w x y b s hb hs = list_of-below (written_at n w x y b s) 256 (length s) (omega arith) (λ j. either-byte (covers n x y (j % w) (j / w)) (get_or b (place n (j % w - x) (j / w - y)) 0) (get_or s j 0) (hb (place n (j % w - x) (j / w - y))) (hs j))
+written-bytes n w x y b s hb hs = list_of-below (written_at n w x y b s) 256 (length s) (omega arith) (λ j. pick-byte (covers n x y (j % w) (j / w)) (get_or b (place n (j % w - x) (j / w - y)) 0) (get_or s j 0) (hb (place n (j % w - x) (j / w - y))) (hs j))
 
 -- so are those of a sheet after each record
 in-turn-bytes : (S : Sheet) (M : Material) (f : ℕ → Record) (s : List ℕ) (k : ℕ) → table_ok M.table ≡ true → Bytes s → Bytes (placed_in_turn S M f s k)

@@ -20,8 +20,8 @@ use Rattle.sheet_grid.specs.Grid.{most_samples, most_blocks}
 use Rattle.show_text.specs.Printed.{sheet_text, refusal_text}
 use Rattle.show_text.proofs.PrintLaws.{sheet-same}
 use Rattle.std.proofs.Common.{Ok, Err}
-use Rattle.pattern.specs.declared.refusals.Refusal.{Refusal}
 use Rattle.pattern.specs.Refusal.{number_of}
+use Rattle.pattern.proofs.AnswerLaws.{number-some}
 use Rattle.record_read.specs.declared.reading.FileBack.{FileBack}
 use Rattle.record_read.specs.declared.lines.LineRefusal.{LineRefusal}
 use Rattle.record_file.specs.Reading.{File, Aids}
@@ -31,10 +31,6 @@ use Rattle.record_file.proofs.LineBounds.{Below, line_end, read_below}
 use Rattle.show_text.proofs.SampleLaws.{file-fits, text-short}
 
 -- ---- what reading answers and leaves
-
--- no refusal has the number 0
-number-some : (r : Refusal) → number_of r ≡ 0 → ⊥
-number-some r = grind arith
 
 -- a refused line
 back-refused : (x : Lined File) (e : LineRefusal) → back_told (Err e) ≡ file_back x → x ≡ refused_at (number_of e.refusal) e.line
@@ -64,6 +60,28 @@ module _ (A : Aids) (F : File) (old : List ℕ) where
   unfolding samples_back
   drawn-at i h = get_or-append (samples_in A F) (drop (F.width * F.height) old) 0 i (omega (arith, drawn-length))
 
+-- what is answered and left where no line is refused
+pub back_read :
+    (A : Aids) (s : List ℕ) (r : Back) (samples old : List ℕ) → r ≡ file_back (read_with A s) → r.refusal ≡ 0
+    → samples ≡ leaving (read_with A s) (λ F. samples_back A F old) old → SheetBack A (read_with A s) r.sheet samples
+back_read A s r samples old e h d = go (read_with A s) refl e d
+  where
+    go : (x : Lined File) → read_with A s ≡ x → r ≡ file_back x → samples ≡ leaving x (λ F. samples_back A F old) old → SheetBack A x r.sheet samples
+    go (refused_at n k) q e d =
+        let b : (0 < n) × (k < line_end) = subst (λ (x : Lined File). Below line_end x) q (read_below A most_samples most_blocks s) in
+        absurd (omega (arith, h, b.0, ap (λ (c : Back). c.refusal) e))
+    go (read F t) q e d =
+        let f = file-fits A most_samples most_blocks F s t q in
+        let S : r.sheet ≡ finished (empty_sheet F) = ap (λ (c : Back). c.sheet) e in
+        rw (S, d)
+        (record {
+          width = f.width;
+          height = f.height;
+          few = f.samples;
+          held = drawn-held A F old;
+          same = sheet-same F.width F.height (samples_back A F old) (samples_in A F) (drawn-at A F old);
+        })
+
 -- as much is lent to it as a sheet can have
 abbrev pub lent : Lent
 lent = lent_of (replicate most_samples 0) (replicate most_blocks (replicate 4 (pos 0)))
@@ -85,25 +103,7 @@ module _ (A : Aids) (s : List ℕ) where
   pub sheet-shown : {after : Lent} (b : FileBack) → Reads A lent s (back_told (Ok b)) after → SheetBack A (read_with A s) b.sheet after.samples
   sheet-shown {after} b r =
       let drawn : Lined File → List ℕ = λ x. leaving x (λ F. samples_back A F lent.samples) lent.samples in
-      go (read_with A s) refl (r.answered ∙ ap file_back lent-read) (r.drawn ∙ ap drawn lent-read)
-    where
-      go :
-          (x : Lined File) → read_with A s ≡ x → back_told (Ok b) ≡ file_back x
-          → after.samples ≡ leaving x (λ F. samples_back A F lent.samples) lent.samples → SheetBack A x b.sheet after.samples
-      go (refused_at n k) q e d =
-          let h : (0 < n) × (k < line_end) = subst (λ (x : Lined File). Below line_end x) q (read_below A most_samples most_blocks s) in
-          absurd (omega (arith, h.0, ap (λ (c : Back). c.refusal) e))
-      go (read F t) q e d =
-          let f = file-fits A most_samples most_blocks F s t q in
-          let S : b.sheet ≡ finished (empty_sheet F) = ap (λ (c : Back). c.sheet) e in
-          rw (S, d)
-          (record {
-            width = f.width;
-            height = f.height;
-            few = f.samples;
-            held = drawn-held A F lent.samples;
-            same = sheet-same F.width F.height (samples_back A F lent.samples) (samples_in A F) (drawn-at A F lent.samples);
-          })
+      back_read A s (back_told (Ok b)) after.samples lent.samples (r.answered ∙ ap file_back lent-read) refl (r.drawn ∙ ap drawn lent-read)
 
 -- ---- the answer
 

@@ -4,6 +4,7 @@ ghost use Rattle.pattern.specs.Refusal.{number_of};
 ghost use Rattle.record_text.specs.Numeral.{numeral_end};
 ghost use Rattle.record_print.specs.Put.{Written};
 ghost use Rattle.show_text.specs.Printed.{pair_text, sides_text, rows_text, sheet_text, refusal_text};
+ghost use Rattle.sheet.specs.State.{area};
 ghost use Rattle.sheet_grid.specs.Grid.{most_samples};
 ghost use Rattle.show_text.specs.Steps.{SheetFits};
 
@@ -33,34 +34,28 @@ fn put_sides(out: &mut [u8], width: u32, height: u32) -> Cursor
 
 // The sample rows; the place after them. The samples are numbered through in one loop: with `chunks_exact` a second function would have
 // to print a row, and its last sample would still be told from the others by its number.
-fn put_rows(out: &mut [u8], from: Cursor, width: usize, height: usize, samples: &[u8]) -> Cursor
-    requires samples_held { (width * height ≤ most_samples) × (width * height ≤ length samples.now) }
-    requires has_room { from.at + 4 * (width * height) ≤ length out.old }
-    ensures { Written out.old out.new from.at (rows_text width height samples.now) result.at }
+fn put_rows(out: &mut [u8], from: Cursor, sheet: Sheet, samples: &[u8]) -> Cursor
+    requires samples_held { (area sheet ≤ most_samples) × (area sheet ≤ length samples.now) }
+    requires has_room { from.at + 4 * area sheet ≤ length out.old }
+    ensures { Written out.old out.new from.at (rows_text sheet.width sheet.height samples.now) result.at }
 {
     let mut next = from;
-    for (i, sample) in samples[..width * height].iter().enumerate() {
+    for (i, sample) in samples[..sheet.area()].iter().enumerate() {
         let depth = u32::from(*sample);
-        let end = end_byte((i + 1) % width == 0);
+        let end = end_byte((i + 1) % sheet.width as usize == 0);
         next = put_number(out, next, depth, end);
     }
     next
 }
 
 // The text of a sheet from the start of `out`; its length.
+#[tactic(auto, using(crate::proofs::PrintLaws::rows_room))]
 pub(crate) fn put_sheet(out: &mut [u8], sheet: Sheet, samples: &[u8]) -> usize
     requires { SheetFits sheet.width sheet.height (length samples.now) (length out.old) }
     ensures { Written out.old out.new 0 (sheet_text sheet.width sheet.height samples.now) result }
 {
     let sides = put_sides(out, sheet.width, sheet.height);
-    put_rows(
-        out,
-        sides,
-        sheet.width as usize,
-        sheet.height as usize,
-        samples,
-    )
-    .at
+    put_rows(out, sides, sheet, samples).at
 }
 
 // The text of a refusal from the start of `out`; its length.

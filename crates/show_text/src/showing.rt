@@ -31,6 +31,7 @@ fn size_in(bytes: &[u8]) -> Option<usize>
 }
 
 // The size in a file and the wedgelet list for it, in the first of the words; none where the file names no size that is allowed.
+#[tactic(auto, using(crate::proofs::AidLaws::none_for))]
 fn build_list<'a>(
     bytes: &[u8],
     words: &'a mut [u64; LIST_WORDS],

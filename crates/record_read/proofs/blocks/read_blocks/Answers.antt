@@ -1,17 +1,8 @@
 -- `read_blocks` meets its contract: a step for each block, then the end of the bytes.
-use Rattle.std.proofs.Common.{rules, refl, arith, Ok, Err}
+use Rattle.std.proofs.Common.{arith, Ok, Err}
 use Rattle.std.proofs.lemmas.Result.{err_from_is_err_and}
-use Rattle.record_read.proofs.StepLaws.{turned-start, turned-begun, turned_more, turned-refused, turned-end}
+use Rattle.record_read.proofs.StepLaws.{turned-refused, turned-end}
 use Rattle.record_read.proofs.blocks.read_blocks.Goals as goal
-
-pub loop-place-init : goal.loop-place-init
-loop-place-init c = (turned-start c.args.input c.args.from c.args.samples.now c.args.records.now, refl)
-
-pub read_block-requires : goal.read_block-requires
-read_block-requires c =
-    let a = c.args in
-    let l = c.loop-place in
-    turned-begun a.input a.from a.samples.now a.records.now l.invariant.0 c.requires (omega (arith, c.requires.room)) l.invariant.1
 
 pub returns-in_err-record : goal.returns-in_err-record
 returns-in_err-record c =
@@ -19,12 +10,6 @@ returns-in_err-record c =
     let l = c.loop-place in
     let q = err_from_is_err_and c.from_residual.result c.from_residual.ensures.1 in
     rw (q.1, q.2) (turned-refused a.input a.from a.samples.now a.records.now l.invariant.0 (omega (arith, c.requires.room)) c.in_err-record.ensures)
-
-pub loop-place-preserved : goal.loop-place-preserved
-loop-place-preserved c =
-    let a = c.args in
-    let l = c.loop-place in
-    (turned_more a.input a.from a.samples.now a.records.now l.invariant.0 (omega (arith, c.requires.room)) (omega arith) c.in_ok-record.ensures c.into.ensures, search rules)
 
 pub returns-in_err-check_end : goal.returns-in_err-check_end
 returns-in_err-check_end c =

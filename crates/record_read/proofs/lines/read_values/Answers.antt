@@ -1,13 +1,10 @@
 -- `read_values` meets its contract: the lines so far, and their values.
-use Rattle.std.proofs.Common.{ℕ, List, [], ◌∷◌, ◌≡◌, ◌++◌, ◌∙◌, ap, arith, sym}
+use Rattle.std.proofs.Common.{arith, sym}
 use Rattle.std.proofs.lemmas.Result.{err_from_is_err_and}
 use Rattle.record_text.specs.Line.{value_line}
 use Rattle.record_file.specs.Reading.{value_meaning, low_after}
-use Rattle.record_read.proofs.ReadLaws.{going_start, going_more, going-refused, going_end, loop_read}
+use Rattle.record_read.proofs.ReadLaws.{going-refused, going_end, loop_read}
 use Rattle.record_read.proofs.lines.read_values.Goals as goal
-
-pub loop-i-init : goal.loop-i-init
-loop-i-init c = going_start value_line value_meaning low_after c.args.values 4 0 c.args.bytes.now c.new-table.ensures
 
 pub returns-in_err-value : goal.returns-in_err-value
 returns-in_err-value c =
@@ -15,15 +12,6 @@ returns-in_err-value c =
     let e = going-refused value_line value_meaning low_after a.values 4 0 a.bytes.now c.loop-i.invariant (omega arith) c.in_err-value.ensures in
     let p = err_from_is_err_and c.from_residual.result c.from_residual.ensures.1 in
     rw (p.1, p.2) (sym e)
-
-pub loop-i-preserved : goal.loop-i-preserved
-loop-i-preserved c =
-    let a = c.args in
-    let l = c.loop-i in
-    let v = c.in_ok-value.value in
-    going_more value_line value_meaning low_after a.values 4 0 a.bytes.now l.invariant (omega arith)
-    (λ k. c.push.new.self.items ≡ k) c.in_ok-value.ensures (omega arith)
-    (λ k e h. c.push.ensures.items ∙ ap (λ (x : List ℕ). x ++ (v ∷ [])) h)
 
 pub returns : goal.returns
 returns c =

@@ -6,7 +6,7 @@ use Rattle.record_file.proofs.FileLaws.{size_small}
 use Rattle.record_file.proofs.RoundTrip.{read-lengths}
 use Rattle.record_read.specs.Back.{lent_of, reading}
 use Rattle.record_read.specs.Step.{Counted, front_size}
-use Rattle.record_read.proofs.BackLaws.{read_short, read-passed, front-refused, file-is, all-refused, area-few, small-room}
+use Rattle.record_read.proofs.BackLaws.{read-passed, front-refused, all-refused, area-few, small-room}
 use Rattle.record_read.proofs.reading.read.Goals.{Else-not-lengths_ok, In_ok-front}
 use Rattle.record_read.proofs.reading.read.Goals as goal
 
@@ -34,12 +34,6 @@ counted c =
     let n = c.in_ok-front.front.sheet.n in
     let size = (size_small (length a.input.texture.now) (front_size c.in_ok-front.front) c.in_ok-front.ensures.sound.size).size in
     record { inside = l.inside n size; few = l.few n size }
-
-pub returns-then-not-lengths_ok : goal.returns-then-not-lengths_ok
-returns-then-not-lengths_ok c =
-    let a = c.args in
-    all-refused (aids_in a.input) (lent_of a.samples.now a.records.now)
-    (sym (read_short (aids_in a.input) (length a.samples.now) (length a.records.now) a.bytes.now (sym c.lengths_ok.ensures ∙ c.if-not-lengths_ok.true)))
 
 pub returns-in_err-front : goal.returns-in_err-front
 returns-in_err-front c =
@@ -74,14 +68,3 @@ pub read_with-requires-else-area-le-SMALL_SAMPLES-clause-fits : goal.read_with-r
 read_with-requires-else-area-le-SMALL_SAMPLES-clause-fits c =
     let l = enough (goal.at.read_with-requires-else-area-le-SMALL_SAMPLES-clause-fits c).Else-not-lengths_ok in
     (l.samples_lent, l.records_lent)
-
-pub returns-then-area-le-SMALL_SAMPLES : goal.returns-then-area-le-SMALL_SAMPLES
-returns-then-area-le-SMALL_SAMPLES c =
-    let p = goal.at.returns-then-area-le-SMALL_SAMPLES c in
-    rw (passed p.Else-not-lengths_ok, file-is (aids_in c.args.input) c.args.bytes.now c.in_ok-front.front c.in_ok-front.ensures) c.read_with.ensures
-
-pub returns-else-area-le-SMALL_SAMPLES : goal.returns-else-area-le-SMALL_SAMPLES
-returns-else-area-le-SMALL_SAMPLES c =
-    let p = goal.at.returns-else-area-le-SMALL_SAMPLES c in
-    rw (passed p.Else-not-lengths_ok, file-is (aids_in c.args.input) c.args.bytes.now c.in_ok-front.front c.in_ok-front.ensures)
-    c.read_with-else-area-le-SMALL_SAMPLES.ensures

@@ -1,9 +1,9 @@
 -- `read_with` meets its contract: the records are placed on the first samples, and copied once all are read.
-use Rattle.std.proofs.Common.{refl, rules}
+use Rattle.std.proofs.Common.{refl, rules, ap, ◌∙◌}
 use Rattle.std.proofs.lemmas.Result.{err_from_is_err_and}
 use Rattle.record_file.specs.Reading.{aids_in}
 use Rattle.sheet.specs.State.{area, blocks_of}
-use Rattle.record_read.specs.Back.{lent_of}
+use Rattle.record_read.specs.Back.{lent_of, before_zeros}
 use Rattle.record_read.proofs.BackLaws.{begun_line, lends_in, begun, rest-refused, rest-read, all-refused, places-in}
 use Rattle.record_read.proofs.reading.read_with.Goals as goal
 
@@ -35,3 +35,4 @@ returns g c =
     _ _ (lent_of a.samples.now a.records.now) (begun_line a.front c.len.result c.len.ensures.value) c.in_ok-sheet.ensures drawn
     (search rules) (search rules)
     c.area-area.ensures c.blocks-blocks.ensures c.copy_from_slice.ensures.after c.copy_from_slice-2.ensures.after
+    c.len-2.ensures.value (c.filled.ensures ∙ ap before_zeros c.as_slice-2.ensures.value)

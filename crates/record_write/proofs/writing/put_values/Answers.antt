@@ -4,7 +4,7 @@ use Rattle.record_text.specs.Line.{value_text}
 use Rattle.record_print.specs.Put.{Put, printed_if, number_printable}
 use Rattle.record_print.proofs.LoopLaws.{writing_start, line-more}
 use Rattle.record_print.proofs.WriteSteps.{written-length}
-use Rattle.record_write.proofs.WriteLaws.{value-printed, values-short, values-all}
+use Rattle.record_write.proofs.WriteLaws.{value-printed, values-short, values-all, values_length}
 use Rattle.record_write.proofs.writing.put_values.Goals as goal
 
 pub loop-v-init : goal.loop-v-init
@@ -28,4 +28,6 @@ pub returns : goal.returns
 returns c =
     let a = c.args in
     let l = c.loop-v in
-    values-all a.table.now l.v-index (omega arith) l.invariant.0
+    let byte : (i : ℕ) → get_or a.table.now i 0 < 256 = λ i. omega (arith, c.type_inv.table i) in
+    let w = values-all a.table.now l.v-index (omega arith) l.invariant.0 in
+    record { written = w; short = omega (arith, w.place, values_length a.table.now byte) }

@@ -9,5 +9,5 @@ use Rattle.show_text.proofs.printing.put_rows.Given as goal
 
 abbrev pub invariant-loop-i : goal.invariant-loop-i
 invariant-loop-i l =
-    (Written l.initial.out l.out l.initial.next.at (texts (sample_text l.width l.samples) (list_of (λ k. k) l.i)) l.next.at)
+    (Written l.initial.out l.out l.initial.next.at (texts (sample_text l.sheet.width l.samples) (list_of (λ k. k) l.i)) l.next.at)
     × (length l.out ≡ length l.initial.out)

@@ -1,14 +1,8 @@
 -- `put_sides` meets its contract: three lines one after the other, with room for each.
 use native.Mathlib.Omega.{arith}
 use Rattle.show_text.specs.Printed.{sides_title}
-use Rattle.show_text.proofs.PrintLaws.{title-written, title-room, sides-written}
+use Rattle.show_text.proofs.PrintLaws.{title-written, sides-written}
 use Rattle.show_text.proofs.printing.put_sides.Goals as goal
-
-pub put_pair-sides-requires : goal.put_pair-sides-requires
-unfolding sides_title
-put_pair-sides-requires c =
-    let room = title-room sides_title c.args.out.now (omega (arith, c.requires)) c.put_text-title.ensures in
-    (omega (arith, c.requires), omega (arith, c.requires), room)
 
 pub returns : goal.returns
 unfolding sides_title

@@ -4,12 +4,9 @@ use mathlib.Core.Path.{sym}
 use native.Mathlib.Omega.{arith}
 use Rattle.wedgelet.specs.Answer.{most_words}
 use Rattle.show_text.specs.Steps.{Listing}
-use Rattle.show_text.proofs.AidLaws.{list-lent, list-none, none-for}
+use Rattle.show_text.proofs.AidLaws.{list-lent, list-none}
 use Rattle.show_text.proofs.showing.build_list.Goals.{After-words_of}
 use Rattle.show_text.proofs.showing.build_list.Goals as goal
-
-pub returns-in_err-n : goal.returns-in_err-n
-returns-in_err-n c = rw (c.from_residual.ensures, ← c.in_err-n.ensures) none-for
 
 pub returns-in_err-count : goal.returns-in_err-count
 returns-in_err-count c =

@@ -10,10 +10,6 @@ put_refusal-requires c =
     let r = refused-shown (aids_in c.args.input) c.args.bytes.now c.in-Err.refused c.in-Err.ensures in
     (r.1, omega (arith, c.requires))
 
-pub returns-in-Err : goal.returns-in-Err
-returns-in-Err c =
-    written_as c.put_refusal.ensures (refused-shown (aids_in c.args.input) c.args.bytes.now c.in-Err.refused c.in-Err.ensures).0
-
 pub put_sheet-requires : goal.put_sheet-requires
 put_sheet-requires c =
     let b = sheet-shown (aids_in c.args.input) c.args.bytes.now c.in-Ok.back c.in-Ok.ensures in

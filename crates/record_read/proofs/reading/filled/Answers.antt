@@ -3,7 +3,7 @@ use Rattle.std.proofs.Common.{ℕ, ◌∙◌, List, arith, refl, replicate, sym,
 use Rattle.std.proofs.Math.ListN.{length-replicate}
 use Rattle.std.proofs.Math.Seq.{sets-eq}
 use Rattle.depth_table.specs.Table.{most_values}
-use Rattle.file_calls.proofs.filled.Goals as goal
+use Rattle.record_read.proofs.reading.filled.Goals as goal
 
 pub returns : goal.returns
 returns c =
