@@ -44,16 +44,15 @@ fn table() -> [u8; 256] {
 // Original samples that fall into no pattern. `vectors` makes such samples too: a shared generator would be a public function of a library
 // for tests alone.
 fn original<const AREA: usize>() -> [u8; AREA] {
-    let mut out = [0u8; AREA];
     let mut state: u64 = 1;
-    for sample in out.iter_mut() {
+    std::array::from_fn(|_| {
         state = (state % 2147483648 * 1103515245 + 12345) % 2147483648;
-        *sample = (state / 65536 % 256) as u8;
-    }
-    out
+        (state / 65536 % 256) as u8
+    })
 }
 
-// Composes a new sheet of AREA samples, as wide as high, in blocks of n; the number of records written.
+// Composes a new sheet of AREA samples, as wide as high, in blocks of n; the number of records written. AREA stands beside the side, since
+// an array's length is no product of a const parameter.
 fn written<const AREA: usize>(n: u32, side: u32) -> Result<usize, Refusal>
     requires { AREA ≤ 16384 }
 {

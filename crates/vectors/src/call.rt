@@ -1,6 +1,5 @@
-// The calls of the cases, and what a case lends to its call.
+// The calls of the cases, and what a case gives to its call.
 use crate::fields::Fields;
-use crate::{blocks, patterns, sheets};
 use std::io;
 
 // A call that a case can name.
@@ -16,16 +15,6 @@ pub(crate) enum Call {
     New,
     Place,
     Compose,
-}
-
-// The slices of a case that its call only reads. The list and the samples, to which a call can write, stand beside them: a call that is
-// given a struct with such slices needs a clause that they still are the same ones.
-#[derive(Clone, Copy)]
-pub(crate) struct Lent<'a> {
-    pub(crate) border: &'a [u8],
-    pub(crate) table: &'a [u8],
-    pub(crate) texture: &'a [u8],
-    pub(crate) original: &'a [u8],
 }
 
 impl Call {
@@ -45,27 +34,39 @@ impl Call {
             _ => None,
         }
     }
+}
 
+// A case: its fields, the slices that its call only reads, and the handle that prints its answer. The list and the samples, to which a
+// call can write, stand beside it: a call that is given a struct with such slices needs a clause that they still are the same ones.
+#[derive(Drop)]
+pub(crate) struct Case<'a, P: Print> {
+    pub(crate) rt: &'a P,
+    pub(crate) fields: &'a Fields,
+    pub(crate) border: &'a [u8],
+    pub(crate) table: &'a [u8],
+    pub(crate) texture: &'a [u8],
+    pub(crate) original: &'a [u8],
+}
+
+impl<'a, P: Print> Case<'a, P> {
     // Makes the call, and prints its answer.
     pub(crate) fn answer(
-        self,
-        rt: &impl Print,
-        fields: &Fields,
-        list: &mut [u64],
+        &'a self,
+        call: Call,
+        list: &'a mut [u64],
         samples: &mut [u8],
-        lent: Lent,
     ) -> io::Result<()> {
-        match self {
-            Call::Index => patterns::index(rt, fields, lent.table),
-            Call::Marks => patterns::marks(rt, fields),
-            Call::Contour => patterns::contour(rt, fields, lent.texture),
-            Call::Wedgelets => patterns::wedgelets(rt, fields, list),
-            Call::Sides => blocks::sides(rt, fields, lent.border),
-            Call::Predict => blocks::predict(rt, fields, samples, lent),
-            Call::Choose => blocks::choose(rt, fields, list, lent),
-            Call::New => sheets::new(rt, fields),
-            Call::Place => sheets::place(rt, fields, list, samples, lent),
-            Call::Compose => sheets::compose(rt, fields, list, samples, lent),
+        match call {
+            Call::Index => self.index(),
+            Call::Marks => self.marks(),
+            Call::Contour => self.contour(),
+            Call::Wedgelets => self.wedgelets(list),
+            Call::Sides => self.sides(),
+            Call::Predict => self.predict(samples),
+            Call::Choose => self.choose(list),
+            Call::New => self.new_sheet(),
+            Call::Place => self.place(list, samples),
+            Call::Compose => self.compose(list, samples),
         }
     }
 }

@@ -2,6 +2,9 @@
 // slice.
 use crate::reader;
 use crate::reader::Field;
+use pattern::Pattern;
+use record::Record;
+use sheet::Sheet;
 
 // As many numbers and bars of a line are read.
 const NUMBERS: usize = 4080;
@@ -14,43 +17,63 @@ pub(crate) struct Fields {
     bars: [Option<usize>; 16],
 }
 
-// Numbers of a line from a place on.
-#[derive(Clone, Copy)]
+// Numbers of a line, read one after the other.
+#[derive(Drop)]
 pub(crate) struct Numbers<'a> {
-    numbers: &'a [u64],
+    left: std::slice::Iter<'a, u64>,
 }
 
-impl<'a> Numbers<'a> {
-    // The numbers after the first k.
-    pub(crate) fn skip(self, k: usize) -> Numbers<'a> {
-        Numbers {
-            numbers: self.numbers.get(k..).unwrap_or(&[]),
-        }
+impl Numbers<'_> {
+    // The next number. Where the line has no more it is 0, as outside/README.md says of all that is missing at a line's end.
+    pub(crate) fn number(&mut self) -> u64 {
+        self.left.next().copied().unwrap_or(0)
     }
 
-    // Number k, 0 where the line has none.
-    pub(crate) fn number(self, k: usize) -> u64 {
-        self.numbers.get(k).copied().unwrap_or(0)
+    // The next number as a length or a place.
+    pub(crate) fn size(&mut self) -> usize {
+        self.number() as usize
     }
 
-    // Number k as a length or a place.
-    pub(crate) fn size(self, k: usize) -> usize {
-        self.number(k) as usize
+    // The next number as one of 32 bits, what does not fit modulo 4294967296: `TryFrom` has no answer there.
+    pub(crate) fn short(&mut self) -> u32 {
+        (self.number() % 4294967296) as u32
     }
 
-    // Number k as a number of 32 bits, what does not fit modulo 4294967296: `TryFrom` has no answer there.
-    pub(crate) fn short(self, k: usize) -> u32 {
-        (self.number(k) % 4294967296) as u32
-    }
-
-    // Number k as a signed number: below 65536 itself, else minus the magnitude of its negative, modulo 65536. `TryFrom` has no answer for
-    // greater ones.
-    pub(crate) fn signed(self, k: usize) -> i32 {
-        let value = self.number(k);
+    // The next number as a signed one: below 65536 itself, else minus the magnitude of its negative, modulo 65536. `TryFrom` has no answer
+    // for greater ones.
+    pub(crate) fn signed(&mut self) -> i32 {
+        let value = self.number();
         if value < 65536 {
             return value as i32;
         }
         -((value.wrapping_neg() % 65536) as i32)
+    }
+
+    // The pattern of the next four numbers.
+    pub(crate) fn pattern(&mut self) -> Pattern {
+        Pattern {
+            words: std::array::from_fn(|_| self.number()),
+        }
+    }
+
+    // The record of the next four numbers.
+    pub(crate) fn record(&mut self) -> Record {
+        Record {
+            kind: self.short(),
+            entry: self.short(),
+            off0: self.signed(),
+            off1: self.signed(),
+        }
+    }
+
+    // The state of a sheet of the next four numbers.
+    pub(crate) fn sheet(&mut self) -> Sheet {
+        Sheet {
+            n: self.short(),
+            width: self.short(),
+            height: self.short(),
+            placed: self.short(),
+        }
     }
 }
 
@@ -58,12 +81,6 @@ impl<'a> Numbers<'a> {
 pub(crate) fn first<T>(s: &mut [T], k: usize) -> &mut [T] {
     let end = k.min(s.len());
     &mut s[..end]
-}
-
-// Samples that are given one by one.
-fn give(numbers: Numbers, out: &mut [u8]) {
-    let mut given = numbers.numbers.iter();
-    out.fill_with(|| (given.next().copied().unwrap_or(0) % 256) as u8);
 }
 
 // Pseudo-random samples from a seed. A step is made before each. `compose_bench` makes such samples too: a shared generator would be a
@@ -108,18 +125,19 @@ impl Fields {
         (Fields { numbers, bars }, rest)
     }
 
-    // All numbers of the line.
+    // The numbers of the line.
     pub(crate) fn line(&self) -> Numbers {
         Numbers {
-            numbers: &self.numbers,
+            left: self.numbers.iter(),
         }
     }
 
     // The numbers after the bar with a letter.
     pub(crate) fn after(&self, letter: u8) -> Numbers {
-        match self.bars[usize::from(letter % 16)] {
-            Some(place) => self.line().skip(place),
-            None => Numbers { numbers: &[] },
+        let place = self.bars[usize::from(letter % 16)];
+        let left = place.and_then(|place| self.numbers.get(place..));
+        Numbers {
+            left: left.unwrap_or(&[]).iter(),
         }
     }
 
@@ -127,12 +145,12 @@ impl Fields {
     // 1 the seed, for rule 2 the start and the width of the steps. A rule is a number, since an enum would be made of it and matched here
     // alone.
     pub(crate) fn samples<'a>(&self, letter: u8, out: &'a mut [u8]) -> &'a mut [u8] {
-        let numbers = self.after(letter);
-        let made = first(out, numbers.size(0));
-        match numbers.number(1) {
-            0 => give(numbers.skip(2), made),
-            1 => randomize(numbers.number(2), made),
-            _ => climb(numbers.number(2), numbers.number(3), made),
+        let mut numbers = self.after(letter);
+        let made = first(out, numbers.size());
+        match numbers.number() {
+            0 => made.fill_with(|| (numbers.number() % 256) as u8),
+            1 => randomize(numbers.number(), made),
+            _ => climb(numbers.number(), numbers.number(), made),
         }
         made
     }
@@ -140,10 +158,11 @@ impl Fields {
     // The list, made in the lent slice: a size for which it is built, the number of words, then how many words are put in from the start,
     // and these.
     pub(crate) fn list<'a>(&self, out: &'a mut [u64]) -> &'a mut [u64] {
-        let numbers = self.after(b'l');
-        let _ = wedgelet::wedgelets(numbers.size(0), out);
-        let mut given = numbers.skip(3).numbers.iter();
-        first(out, numbers.size(2)).fill_with(|| given.next().copied().unwrap_or(0));
-        first(out, numbers.size(1))
+        let mut numbers = self.after(b'l');
+        let _ = wedgelet::wedgelets(numbers.size(), out);
+        let count = numbers.size();
+        let given = numbers.size();
+        first(out, given).fill_with(|| numbers.number());
+        first(out, count)
     }
 }

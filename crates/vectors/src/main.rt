@@ -1,5 +1,5 @@
-// Reads cases from standard input, one a line, makes the call that each names, and prints a line with its answer. outside/README.md has the
-// form of the cases and of the answers. A line of another form ends the program with the line `bad case`.
+// Reads cases from standard input, one a line, makes the call that each names, and prints a line with its answer. outside/README.md has
+// the form of the cases and of the answers. A line of another form ends the program with the line `bad case`.
 #![tactic(auto)]
 
 mod blocks;
@@ -10,7 +10,7 @@ mod patterns;
 mod reader;
 mod sheets;
 
-use call::{Call, Lent};
+use call::{Call, Case};
 use fields::Fields;
 use reader::TEXT;
 use sheet::MOST_SAMPLES;
@@ -34,13 +34,15 @@ fn answer(rt: &impl Print, call: Call, fields: &Fields) -> io::Result<()> {
     let mut originals = [0u8; SAMPLES];
     let list = fields.list(&mut words);
     let samples = fields.samples(b's', &mut block);
-    let lent = Lent {
+    let case = Case {
+        rt,
+        fields,
         border: fields.samples(b'n', &mut neighbours),
         table: fields.samples(b't', &mut values),
         texture: fields.samples(b'x', &mut textures),
         original: fields.samples(b'o', &mut originals),
     };
-    call.answer(rt, fields, list, samples, lent)
+    case.answer(call, list, samples)
 }
 
 // Answers the case of a line, which ends in a line end; whether it is a case.

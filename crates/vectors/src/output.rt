@@ -19,77 +19,47 @@ pub(crate) fn refused(rt: &impl Print, refusal: Refusal) -> io::Result<()> {
     print!(rt; " refused {number}")
 }
 
-// The checksum of numbers.
-#[derive(Drop)]
-struct Checksum {
-    sum: u64,
+// The checksum of some numbers and one more, from theirs, which is 0 of none.
+fn summed(sum: u64, number: u64) -> u64 {
+    (sum % 1000000007 * 31 + number % 1000000007) % 1000000007
 }
 
-impl Checksum {
-    // The checksum of no numbers.
-    fn new() -> Checksum {
-        Checksum { sum: 0 }
-    }
-
-    // One number more.
-    fn add(&mut self, number: u64) {
-        self.sum = (self.sum % 1000000007 * 31 + number % 1000000007) % 1000000007;
-    }
-
-    // The field `checksum` and the checksum.
-    fn print(&self, rt: &impl Print) -> io::Result<()> {
-        let sum = self.sum;
-        print!(rt; " checksum {sum}")
-    }
+// The field `checksum` and the checksum.
+fn checksum(rt: &impl Print, sum: u64) -> io::Result<()> {
+    print!(rt; " checksum {sum}")
 }
 
 // The samples, where they are shown, and their checksum.
 pub(crate) fn samples(rt: &impl Print, samples: &[u8], shown: bool) -> io::Result<()> {
-    let mut checksum = Checksum::new();
-    for sample in samples {
-        if shown {
+    if shown {
+        for sample in samples {
             number(rt, *sample)?;
         }
-        checksum.add(u64::from(*sample));
     }
-    checksum.print(rt)
+    let sum = samples
+        .iter()
+        .fold(0, |sum, sample| summed(sum, u64::from(*sample)));
+    checksum(rt, sum)
 }
 
 // The words from `first` on below `end`, and the checksum of all: of each its low half, then the high one.
 pub(crate) fn words(rt: &impl Print, list: &[u64], first: usize, end: usize) -> io::Result<()> {
-    let mut checksum = Checksum::new();
-    for (i, w) in list.iter().enumerate() {
-        if first <= i && i < end {
-            word(rt, *w)?;
-        }
-        checksum.add(*w % 4294967296);
-        checksum.add(*w / 4294967296);
+    for w in list.iter().take(end).skip(first) {
+        word(rt, *w)?;
     }
-    checksum.print(rt)
+    let sum = list.iter().fold(0, |sum, w| {
+        summed(summed(sum, *w % 4294967296), *w / 4294967296)
+    });
+    checksum(rt, sum)
 }
 
-// The fields of a record, where it is shown; each counts by its sign and its magnitude.
-fn record(
-    rt: &impl Print,
-    checksum: &mut Checksum,
-    fields: &[i32; 4],
-    shown: bool,
-) -> io::Result<()> {
-    for z in fields {
-        if shown {
-            number(rt, *z)?;
-        }
-        checksum.add(u64::from(*z < 0));
-        checksum.add(u64::from(z.unsigned_abs()));
-    }
-    Ok(())
-}
-
-// The first records, as many as are shown, and the checksum of all.
+// The first records, as many as are shown, and the checksum of all: of each field its sign, then its magnitude.
 pub(crate) fn records(rt: &impl Print, records: &[[i32; 4]], shown: usize) -> io::Result<()> {
-    let mut checksum = Checksum::new();
-    for (i, fields) in records.iter().enumerate() {
-        record(rt, &mut checksum, fields, i < shown)?;
+    for z in records.iter().take(shown).flatten() {
+        number(rt, *z)?;
     }
-    checksum.print(rt)
+    let sum = records.iter().flatten().fold(0, |sum, z| {
+        summed(summed(sum, u64::from(*z < 0)), u64::from(z.unsigned_abs()))
+    });
+    checksum(rt, sum)
 }

@@ -49,35 +49,31 @@ pub(crate) fn split_digits(bytes: &[u8], base: u64) -> (&[u8], &[u8]) {
     bytes.split_at(end)
 }
 
-// The number that digits are in base 10 or 16; what does not fit goes.
-fn value(digits: &[u8], base: u64) -> u64 {
-    digits
+// The number that the digits that come first are in base 10 or 16, of which what does not fit goes, and the bytes after them.
+fn value(bytes: &[u8], base: u64) -> (u64, &[u8]) {
+    let (digits, rest) = split_digits(bytes, base);
+    let value = digits
         .iter()
         .filter_map(|b| digit(*b))
         .fold(0u64, |value, d| {
             (value % 0x1000_0000_0000_0000)
                 .wrapping_mul(base)
                 .wrapping_add(d)
-        })
+        });
+    (value, rest)
 }
 
-// The number that comes first, after a minus one to be taken from 0, after an x one in base 16, and the bytes after it; none where there is
-// no digit, minus or x.
+// The number that comes first, after a minus one to be taken from 0, after an x one in base 16, and the bytes after it; none where there
+// is no digit, minus or x.
 fn number(bytes: &[u8]) -> Option<(u64, &[u8])> {
     let (first, after) = bytes.split_first()?;
     match first {
         b'-' => {
-            let (digits, rest) = split_digits(after, 10);
-            Some((value(digits, 10).wrapping_neg(), rest))
+            let (magnitude, rest) = value(after, 10);
+            Some((magnitude.wrapping_neg(), rest))
         }
-        b'x' => {
-            let (digits, rest) = split_digits(after, 16);
-            Some((value(digits, 16), rest))
-        }
-        b'0'..=b'9' => {
-            let (digits, rest) = split_digits(bytes, 10);
-            Some((value(digits, 10), rest))
-        }
+        b'x' => Some(value(after, 16)),
+        b'0'..=b'9' => Some(value(bytes, 10)),
         _ => None,
     }
 }
