@@ -1,16 +1,20 @@
 -- The least of the numbered distances of a table's values, found from the first on: its number is the index of the depth.
 use Prim.Native.Nat.{ℕ, suc, ◌+◌, ◌-◌, ◌<◌}
-use mathlib.Core.Path.{◌≡◌, sym, ap, subst, ◌∙◌}
+use mathlib.Core.Path.{◌≡◌, refl, sym, ap, subst, ◌∙◌}
 use mathlib.Core.Bool.{Bool, true, false, cond}
 use mathlib.Core.List.{List, [], ◌∷◌}
+use native.Mathlib.Decide.{dec_lt}
 use native.Mathlib.Omega.{arith}
+use borrow.Author.Tests.{lt-ltb, le-ltb, lt-leb, le-leb}
 use lib.ListN.{length, get_or}
-use lib.Dec.{leb}
+use lib.Dec.{leb, eqb}
 use denote.Ref.{Bor}
 use Rattle.std.specs.declared.option.Option.{Option}
 use Rattle.std.specs.declared.option.Option.TheVariants.{None, Some}
 use Rattle.std.specs.Option.{MatchOption, IfSome, IsSomeAnd, option_map}
 use Rattle.std.specs.List.{fold}
+use Rattle.std.specs.Ordering.{is_lt, nat_cmp, ord_min, on}
+use Rattle.std.proofs.Common.{Less, Equal, Greater}
 use Rattle.std.proofs.lemmas.Option.{none-some, same_Some}
 use Rattle.arith.specs.Distance.{dist}
 use Rattle.depth_table.specs.Table.{nearest_to, index_of}
@@ -43,6 +47,24 @@ item None e f h = absurd (none-some _ h)
 item (Some x) {k} {v} {y} e f h =
     let same : x ≡ y = same_Some _ _ h in
     (ap (λ (q : ℕ × ℕ). q.0) (sym same) ∙ e, ap (λ (q : ℕ × ℕ). q.1) (sym same) ∙ f)
+
+not-less : (b : Bool) → is_lt (cond b Equal Greater) ≡ false
+not-less true = refl
+not-less false = refl
+
+-- of two items the second where its distance is no greater, and else the first: the lesser by the distance, asked of the second first
+pub nearer-by : (x y : ℕ × ℕ) → ord_min (on (λ (z : ℕ × ℕ). z.1) nat_cmp) y x ≡ cond (leb y.1 x.1) y x
+nearer-by x y = go (dec_lt x.1 y.1)
+  where
+    chosen : Bool → ℕ × ℕ
+    chosen b = cond (is_lt (cond b Less (cond (eqb x.1 y.1) Equal Greater))) x y
+
+    go : Dec (x.1 < y.1) → ord_min (on (λ (z : ℕ × ℕ). z.1) nat_cmp) y x ≡ cond (leb y.1 x.1) y x
+    go (yes l) = ap chosen (lt-ltb x.1 y.1 l) ∙ sym (ap (λ (b : Bool). cond b y x) (lt-leb y.1 x.1 l))
+    go (no l) =
+        ap chosen (le-ltb x.1 y.1 (omega arith))
+        ∙ ap (λ (b : Bool). cond b x y) (not-less (eqb x.1 y.1))
+        ∙ sym (ap (λ (b : Bool). cond b y x) (le-leb y.1 x.1 (omega arith)))
 
 module _ (t : List ℕ) (d : ℕ) where
   -- of two items the nearer, and of two equally near the second

@@ -3,13 +3,14 @@
 
 mod offset;
 
-ghost use Rattle.std.specs.Prelude.{◌≡◌, ◌<◌, length, MatchOption};
+ghost use Rattle.std.specs.Prelude.{◌≡◌, ◌<◌, cond, leb, length, MatchOption};
 ghost use Rattle.pattern.specs.Refusal.{told};
 ghost use Rattle.depth_table.specs.Table.{rising, table_ok, index_of};
 ghost use Rattle.depth_table.specs.Answer.{nearest_answer, index_answer, place};
 
 pub use offset::{check_offsets, offsets_ok, offsets_usable, value_at};
 use pattern::{Refusal, check};
+use std::cmp::min_by_key;
 
 // A depth value, 0 to 255.
 #[derive(Clone, Copy, Debug, PartialEq, Eq)]
@@ -42,9 +43,11 @@ fn nearest(table: &[u8], d: DepthValue) -> Option<DepthIndex>
     ensures { let t = table.now in MatchOption result (length t ≡ 0) (λ k. (0 < length t) × (k.0 ≡ index_of t d.0)) }
 {
     let distances = table.iter().map(|&value| d.0.abs_diff(value));
-    let nearest = distances
-        .enumerate()
-        .reduce(|best, next| if next.1 <= best.1 { next } else { best });
+    let nearest = distances.enumerate().reduce(
+        |best, next|
+            ensures { result ≡ cond (leb next.1 best.1) next best }
+        { min_by_key(next, best, |item| item.1) },
+    );
     nearest.map(|(k, _)| DepthIndex(k))
 }
 

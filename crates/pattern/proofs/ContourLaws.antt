@@ -19,7 +19,7 @@ use Rattle.arith.proofs.SquareLaws.{place-lt, place-own, transposed-at}
 use Rattle.pattern.specs.Size.{greatest_size}
 use Rattle.pattern.specs.Pattern.{pattern, transposed}
 use Rattle.pattern.specs.Contour.{texture_at, threshold, contour_of}
-use Rattle.pattern.specs.Words.{four_words}
+use Rattle.pattern.specs.Words.{four_words, four_at}
 use Rattle.pattern.proofs.SizeLaws.{square-256}
 use Rattle.pattern.proofs.WordLaws.{four_same, four-parted}
 use Rattle.pattern.proofs.PatternLaws.{pattern-ext, transposed_pattern}
@@ -29,7 +29,7 @@ unfolding contour_of
 contour-lt n t = bits-lt _ (n * n)
 
 -- which samples are above a level
-abbrev pub marks_above : ℕ → List ℕ → ℕ
+abbrev marks_above : ℕ → List ℕ → ℕ
 marks_above level s = bits (λ i. ltb level (get_or s i 0)) (length s)
 
 -- a word with a mark more below those that it has, where the next sample is above the level
@@ -37,7 +37,7 @@ abbrev pub with_mark : ℕ → ℕ → ℕ → ℕ
 with_mark level w sample = w * 2 ^ 1 % 2 ^ 64 + bit (ltb level sample)
 
 -- at most 64 samples, the last of them first, give their marks
-pub marks_folded : (level : ℕ) (s : List ℕ) → length s ≤ 64 → fold (with_mark level) 0 (reverse s) ≡ marks_above level s
+marks_folded : (level : ℕ) (s : List ℕ) → length s ≤ 64 → fold (with_mark level) 0 (reverse s) ≡ marks_above level s
 unfolding bits
 marks_folded level [] h = refl
 marks_folded level (x ∷ s) h =
@@ -71,23 +71,36 @@ moved :
 moved f {a} {b} {k} e h =
     bits-ext (λ i. f (a + i)) (λ i. f (b + i)) k (λ i l. ap (λ (x : ℕ). f (x + i)) (h i l)) ∙ ap (bits (λ i. f (b + i))) e
 
+-- the samples from place `at` on, and at most 64 of them, last one first, give their marks
+pub part_folded :
+    (t : List ℕ) (level at : ℕ) {a b : ℕ} → a ≡ min (length t) at → b ≡ min (length t) (at + 64)
+    → fold (with_mark level) 0 (reverse (take (b - a) (drop a t))) ≡ bits (above_from t level at) (min (length t - at) 64)
+part_folded t level at {a} {b} e f =
+    let inside : a + (b - a) ≤ length t = omega (arith, e, f) in
+    let long : length (take (b - a) (drop a t)) ≡ b - a = length-take-le (b - a) (drop a t) (omega (arith, e, f, length-drop a t)) in
+    marks_folded level (take (b - a) (drop a t)) (omega (arith, e, f, long))
+    ∙ part t level a (b - a) inside
+    ∙ moved (λ i. ltb level (get_or t i 0)) {a = a} {b = at} {k = b - a} (omega (arith, e, f)) (λ i l. omega (arith, e, f))
+
 -- the contour as the code makes it: four words, each of at most 64 of the samples that are left
 pub contour-parts :
-    (n : ℕ) (t : List ℕ) {level a b c d m1 m2 m3 : ℕ} → n ≤ greatest_size → length t ≡ n * n → level ≡ threshold n t
-    → m1 ≡ min (length t) 64 → m2 ≡ min (length t) 128 → m3 ≡ min (length t) 192
-    → a ≡ marks_above level (take m1 t) → b ≡ marks_above level (take (m2 - m1) (drop m1 t))
-    → c ≡ marks_above level (take (m3 - m2) (drop m2 t)) → d ≡ marks_above level (take (length t - m3) (drop m3 t))
-    → four_words a b c d ≡ contour_of n t
+    (n : ℕ) (t w : List ℕ) {level : ℕ} → n ≤ greatest_size → length t ≡ n * n → level ≡ threshold n t
+    → let word = λ (at : ℕ). bits (above_from t level at) (min (length t - at) 64) in
+    get_or w 0 0 ≡ word 0 → get_or w 1 0 ≡ word 64 → get_or w 2 0 ≡ word 128 → get_or w 3 0 ≡ word 192
+    → four_at w 0 ≡ contour_of n t
 unfolding contour_of
-contour-parts n t {level} {m1 = m1} {m2 = m2} {m3 = m3} h square e k1 k2 k3 p q r u =
+contour-parts n t w {level} h square e p q r u =
     let f : ℕ → Bool = λ i. ltb level (get_or t i 0) in
     let c = length t in
     let small : c ≤ 256 = omega (arith, square, square-256 h) in
+    let third : min (c - 128) 64 ≡ min (c - 64 - 64) 64 = omega arith in
+    let fourth : min (c - 192) 64 ≡ min (c - 64 - 64 - 64) 64 = omega arith in
+    let first : min (c - 0) 64 ≡ min c 64 = omega arith in
     four_same
-    (p ∙ part t level 0 m1 (omega (arith, k1)) ∙ bits-ext _ _ m1 (λ i _. ap f (let z : 0 + i ≡ i = omega arith in z)) ∙ ap (bits f) k1)
-    (q ∙ part t level m1 (m2 - m1) (omega (arith, k1, k2)) ∙ moved f (omega (arith, k1, k2)) (λ i l. omega (arith, k1, k2)))
-    (r ∙ part t level m2 (m3 - m2) (omega (arith, k2, k3)) ∙ moved f (omega (arith, k2, k3)) (λ i l. omega (arith, k2, k3)))
-    (u ∙ part t level m3 (c - m3) (omega (arith, k3)) ∙ moved f (omega (arith, k3)) (λ i l. omega (arith, k3)))
+    (p ∙ ap (bits (above_from t level 0)) first ∙ bits-ext _ _ (min c 64) (λ i _. ap f (let z : 0 + i ≡ i = omega arith in z)))
+    q
+    (r ∙ ap (bits (above_from t level 128)) third)
+    (u ∙ ap (bits (above_from t level 192)) fourth)
     ∙ sym (four-parted f c small)
     ∙ ap (bits f) square
     ∙ ap (λ (k : ℕ). bits (λ i. ltb k (get_or t i 0)) (n * n)) e

@@ -27,10 +27,10 @@ number_of refusal.OffsetPastTable = 24
 abbrev pub IsSizeRefusal : ℕ → Refusal → Type 0
 IsSizeRefusal n r = (size_ok n ≡ false) × (r ≡ refusal.Size)
 
--- what a check answers
-abbrev pub checked : Bool → Refusal → Result Unit Refusal
-checked true r = Ok (record {})
-checked false r = Err r
+-- what a check answers: nothing, or the error it was given
+abbrev pub checked : {E : Type 0} → Bool → E → Result Unit E
+checked true e = Ok (record {})
+checked false e = Err e
 
 -- the number of a call's refusal, 0 for none
 abbrev pub refusal_in : {A : Type 0} → Result A Refusal → ℕ

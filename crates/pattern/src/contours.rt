@@ -1,9 +1,10 @@
 // The contour of a block's texture.
-ghost use Rattle.std.specs.Prelude.{◌≡◌, ◌*◌, ◌≤◌, ltb, length, get_or};
+ghost use Rattle.std.specs.Prelude.{◌≡◌, ◌+◌, ◌-◌, ◌*◌, ◌<◌, min, ltb, length, get_or};
 ghost use Rattle.arith.specs.Bits.{bits};
 ghost use Rattle.pattern.specs.Contour.{threshold};
 ghost use Rattle.pattern.specs.Answer.{contour_answer};
 ghost use Rattle.pattern.specs.Refusal.{told};
+ghost use Rattle.pattern.specs.Size.{greatest_samples};
 ghost use Rattle.pattern.specs.Words.{pattern_number};
 
 use crate::refusals::Refusal;
@@ -23,12 +24,14 @@ fn threshold(size: Size, texture: &[u8]) -> u32
     (top + bottom) / 4
 }
 
-// One word: which of at most 64 samples are above a level.
+// One word: which of the samples from one place on, and at most 64 of them, are above a level.
 #[tactic(auto, unfolding(arith::specs::Bits::bits))]
-fn above(samples: &[u8], level: u32) -> u64
-    requires { length samples.now ≤ 64 }
-    ensures { let s = samples.now in result ≡ bits (λ i. ltb level (get_or s i 0)) (length s) }
+fn above(texture: &[u8], level: u32, at: usize) -> u64
+    requires { at < greatest_samples }
+    ensures { let t = texture.now in result ≡ bits (λ i. ltb level (get_or t (at + i) 0)) (min (length t - at) 64) }
 {
+    let end = texture.len();
+    let samples = &texture[end.min(at)..end.min(at + 64)];
     samples.iter().rev().fold(0, |w, &sample| {
         (w << 1) + u64::from(level < u32::from(sample))
     })
@@ -41,16 +44,7 @@ pub fn contour(n: usize, texture: &[u8]) -> Result<Pattern, Refusal>
 {
     let size = Size::of_block(n, texture.len())?;
     let level = threshold(size, texture);
-    let end = texture.len();
-    let second = end.min(64);
-    let third = end.min(128);
-    let fourth = end.min(192);
     Ok(Pattern {
-        words: [
-            above(&texture[..second], level),
-            above(&texture[second..third], level),
-            above(&texture[third..fourth], level),
-            above(&texture[fourth..], level),
-        ],
+        words: std::array::from_fn(|i| above(texture, level, 64 * i)),
     })
 }

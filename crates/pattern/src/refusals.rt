@@ -37,14 +37,6 @@ pub enum Refusal {
     OffsetPastTable = 24,
 }
 
-impl From<Refusal> for u8 {
-    ghost from_gives = { λ r k. k ≡ number_of r };
-
-    fn from(refusal: Refusal) -> u8 {
-        refusal as u8
-    }
-}
-
 impl From<Refusal> for u32 {
     ghost from_gives = { λ r k. k ≡ number_of r };
 
@@ -53,9 +45,9 @@ impl From<Refusal> for u32 {
     }
 }
 
-// Refuses where a check does not hold.
-pub fn check(ok: bool, refusal: Refusal) -> Result<(), Refusal>
-    ensures { result ≡ checked ok refusal }
+// Refuses where a check does not hold, with the error that the caller gives.
+pub fn check<E: Drop>(ok: bool, error: E) -> Result<(), E>
+    ensures { result ≡ checked ok error }
 {
-    if ok { Ok(()) } else { Err(refusal) }
+    if ok { Ok(()) } else { Err(error) }
 }

@@ -47,11 +47,12 @@ impl Pattern {
         }
     }
 
-    // The mark of sample k.
-    pub fn mark_at(self, k: usize) -> bool
-        ensures { result ≡ test_bit (pattern_number self) k }
+    // The mark of sample k. The word is read before the test of k, as only a read tells the proof that the words have 64 bits.
+    pub fn mark_at(&self, k: usize) -> bool
+        ensures { result ≡ test_bit (pattern_number self.now) k }
     {
-        k / 64 < WORDS && (self.words[k / 64] >> (k % 64)) % 2 == 1
+        let word = self.words[k / 64 % WORDS];
+        k / 64 < WORDS && (word >> (k % 64)) % 2 == 1
     }
 
     // Whether the pattern has no bit from n * n up.
@@ -104,7 +105,8 @@ pub fn words_of(n: usize) -> usize
     if n <= 8 { 1 } else { WORDS }
 }
 
-// The number of whole patterns in so many words.
+// The number of whole patterns in so many words. It and `count_ok` stand beside the methods of a list, since who has only numbers calls
+// them.
 pub fn whole_patterns(n: usize, words: usize) -> usize
     ensures { result ≡ whole_patterns n words }
 {
@@ -119,7 +121,7 @@ pub fn count_ok(patterns: usize, count: usize) -> bool
 }
 
 // A lent list of patterns, in words, and how many of its patterns count. It is a slice with a count beside it, since C lends the count;
-// a call judges it.
+// a call judges it. Its size is no field: what a list is lent with has an n of its own.
 #[derive(Clone, Copy)]
 pub struct PatternList<'a> {
     pub words: &'a [u64],

@@ -11,7 +11,8 @@ use crate::SideDepths;
 use depth_table::DepthValue;
 use pattern::{Pattern, Refusal, check, size_ok};
 
-// The neighbours of an n by n block: the left run of 2n samples, downward, then the top run of 2n, rightward.
+// The neighbours of an n by n block: the left run of 2n samples, downward, then the top run of 2n, rightward. n is a number and no `Size`,
+// since what `Input::values` asks (`Predictable`) knows only bounds of n: the call judged n by `size_ok`.
 #[derive(Clone, Copy)]
 pub(crate) struct Neighbours<'a> {
     pub(crate) n: usize,

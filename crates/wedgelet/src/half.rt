@@ -116,7 +116,8 @@ impl Half {
     }
 }
 
-// A quotient of small numbers: a division of 32 bits takes less time than one of 64.
+// A quotient of small numbers, in 32 bits: a division of 64 makes the list of 8 by 8 samples a tenth slower, and that of 16 by 16 a
+// thirtieth.
 fn quotient(a: usize, b: usize) -> usize
     requires { (a ≤ 1000) × (b ≤ 1000) × (0 < b) }
     ensures { result ≡ a / b }
