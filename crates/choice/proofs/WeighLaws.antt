@@ -11,7 +11,6 @@ use Rattle.arith.specs.Distance.{clamped}
 use Rattle.depth_table.specs.Table.{index_of}
 use Rattle.depth_table.specs.declared.DepthIndex.{DepthIndex}
 use Rattle.depth_table.proofs.TableLaws.{table-counts}
-use Rattle.depth_table.proofs.IndexLaws.{index_below}
 use Rattle.prediction.specs.Sides.{side_depth}
 use Rattle.prediction.proofs.SideCallLaws.{sides-accepted}
 use Rattle.depth_table.specs.Offset.{level_of}
@@ -20,7 +19,7 @@ use Rattle.choice.specs.Case.{reach_in_use}
 use Rattle.choice.specs.Cost.{side_cost}
 use Rattle.choice.specs.Layers.{layer_at, below_word}
 use Rattle.choice.specs.Trial.{TrialOf}
-use Rattle.choice.specs.Turn.{offset_cost, Findable}
+use Rattle.choice.specs.Turn.{offset_cost}
 use Rattle.choice.proofs.FindLaws.{part-cost}
 use Rattle.choice.proofs.TrialLaws.{trial-of-same}
 use Rattle.choice.specs.Cases.{side_case, depth_in}
@@ -51,9 +50,6 @@ module _ (n w : ℕ) (s o t : List ℕ) (R : ℕ) (h : Weighable n w s o t R) wh
 
       part-is : part ≡ cond m w (bit_xor (below_word (length o) o 256) w)
       part-is = ep ∙ ap (λ (x : ℕ). cond m w (bit_xor x w)) (q.layers.below_at 256 (omega arith))
-
-      pub findable : Findable t i R
-      findable = record { sound = h.sound; inside = rw index_is (index_below t (side_depth n w s m) (table-counts t h.sound).0); near = reach_few }
 
       -- the cost of the part at the offset is the cost of the partition
       cost-there : (k : ℕ) → offset_cost o part true t i k ≡ trial_cost (block_case n s o t R) w m k

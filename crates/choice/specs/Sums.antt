@@ -23,7 +23,8 @@ pub record Extended (before after : List ℕ) (width x : ℕ) : Type 0 where
   pub added : (i : ℕ) → i < width → get_or after (width + i) 0 ≡ get_or before i 0 + x
   pub others : (a : ℕ) → (a < width) ⊎ (width + width ≤ a) → get_or after a 0 ≡ get_or before a 0
 
--- behind the `width` sums from a place on stand the first m of the same with x added; all others are as before
+-- behind the `width` sums from a place on stand the first m of the same with x added; all others are as before: for a law that no proof
+-- cites
 pub record Followed (before after : List ℕ) (from width x m : ℕ) : Type 0 where
   pub as_long : length after ≡ length before
   pub added : (i : ℕ) → i < m → get_or after (from + width + i) 0 ≡ get_or before (from + i) 0 + x

@@ -5,10 +5,13 @@ ghost use Rattle.choice.specs.Layers.{EqualWords, BelowLayers};
 
 use pattern::WORDS;
 
-// The samples below each value from 0 to 256.
+// The samples below each value from 0 to 256. These layers, like those of each value, are rows of words and no `Pattern`s: a sample is
+// added to one word of its row, and a `Pattern` has no `|`.
 pub(crate) type LayerRows = [[u64; WORDS]; 257];
 
-// The samples of each value.
+// The samples of each value. That there are at most 256 of them is asked for here, by `put_below` and by `put_sums`: a struct that says it
+// would serve only to build `Layers`, which says it. A sample's word and its bit are `k / 64` and `k % 64`: by `chunks` there would be two
+// loops.
 #[inline(never)]
 fn equal_layers(samples: &[u8]) -> [[u64; WORDS]; 256]
     requires { length samples.now ≤ greatest_samples }

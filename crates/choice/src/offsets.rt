@@ -42,7 +42,8 @@ fn number_to(from: usize, to: usize) -> usize
     }
 }
 
-// A search for the best offset of a part: the table, the index of the part's depth in it, and the reach.
+// A search for the best offset of a part: the table, the index of the part's depth in it, and the reach. That an index is below the
+// table's length stands in the contracts, since a type for it would hold the table too: it is an index of this table.
 #[derive(Clone, Copy)]
 pub(crate) struct Search<'a> {
     pub part: Part<'a>,
@@ -52,8 +53,8 @@ pub(crate) struct Search<'a> {
     ghost findable: { Findable table.now at reach },
 }
 
-// What a search calls for each pattern is inlined, here and in `Layers::parts`: else its struct goes through memory, where words that were
-// stored one by one are loaded in pairs, and a choice takes a tenth to a quarter longer.
+// `level`, `better_level`, `best_offset` and `Layers::parts` are inlined: a `Search` or a `Part` that is handed on is stored and loaded
+// again, its words by other widths, and a choice then takes a tenth to a quarter longer.
 impl Search<'_> {
     // Twice the samples of the part that are below the value at an index, plus 0 or 1.
     fn twice(&self, j: usize, plus: usize) -> u32
@@ -64,8 +65,9 @@ impl Search<'_> {
         2 * self.part.count_below(usize::from(self.table[j]) + plus)
     }
 
-    // Of the indices `from` to `to` - 1 the last one at which `twice` is under the limit, or `from` where there is none. It halves by
-    // hand, since with the library's `partition_point` the whole search takes a quarter to two fifths longer.
+    // Of the indices `from` to `to` - 1 the last one at which `twice` is under the limit, or `from` where there is none, and no `Option`:
+    // the better of the levels there and at the next index is taken anyway. It halves by hand, since with the library's `partition_point`
+    // the whole search takes a quarter to two fifths longer.
     fn turn(&self, limit: u32, plus: usize, from: usize, to: usize) -> usize
         requires { (plus ≤ 1) × (from < to) × (to < length self.now.table.now) }
         ensures { let p = self.now.part in

@@ -10,7 +10,7 @@ use crate::Input;
 use pattern::{PatternList, Refusal, check, size_ok, texture_ok};
 
 // Whether neighbours, original and texture have their lengths, and the count is allowed. It asks for a bound on n, and takes no `Size`,
-// which would stand beside an input that has an n of its own.
+// with which a clause would have to say that its n and the input's are one number.
 fn lengths_ok(input: Input) -> bool
     requires { input.n ≤ greatest_size }
     ensures { result ≡ case_lengths_ok (case_in input.entry) }

@@ -1,17 +1,17 @@
 // The best offsets of a pattern, and the pattern of least cost.
-ghost use Rattle.std.specs.Prelude.{◌≡◌, true, ◌⊎◌, ◌+◌, ◌*◌, ◌≤◌, length, option_map};
+ghost use Rattle.std.specs.Prelude.{◌≡◌, true, ◌⊎◌, ◌+◌, ◌*◌, ◌<◌, ◌≤◌, length, option_map};
 ghost use Rattle.pattern.specs.Answer.{samples_refusal};
 ghost use Rattle.pattern.specs.Words.{pattern_number};
 ghost use Rattle.choice.specs.Case.{reach_in_use, case_in};
 ghost use Rattle.choice.specs.Refusal.{choose_refusal};
 ghost use Rattle.choice.specs.Search.{contour_lent, pattern_at, last_pattern, tried_at};
-ghost use Rattle.choice.specs.Picked.{CaseIndices, SidesOf, PickedOf};
+ghost use Rattle.choice.specs.Picked.{index_at, CaseIndices, SidesOf, PickedOf};
 
 use crate::Input;
 use crate::cases::{Depths, side_case};
 use crate::layers::put_below;
 use crate::offsets::Search;
-use crate::parts::Layers;
+use crate::parts::{Layers, Part};
 use crate::sums::put_sums;
 use depth_table::DepthIndex;
 use pattern::{Pattern, Size, WORDS};
@@ -54,7 +54,7 @@ struct Block<'a> {
     ghost index_at: { CaseIndices 8 input.n input.border.now input.table.now indices },
 }
 
-impl Block<'_> {
+impl<'a> Block<'a> {
     // The pattern with a number: the entry, and past the last entry the contour, whose number is the count. It is a number, and not an
     // enum of entry and contour, since the order between patterns of one cost compares numbers, and the contour comes last in it.
     fn pattern_at(&self, number: usize) -> Pattern
@@ -80,6 +80,23 @@ impl Block<'_> {
         }
     }
 
+    // The search for the best offset of a part, where the depth of its partition is that of a case.
+    fn search(&self, part: Part<'a>, case: usize) -> Search<'a>
+        requires { case < 8 }
+        ensures { let b = self.now in
+            (result.part ≡ part.entry)
+            × (result.table.now ≡ b.input.table.now)
+            × (result.at ≡ index_at b.indices case)
+            × (result.reach ≡ b.reach) }
+    {
+        Search {
+            part,
+            table: self.input.table,
+            at: self.indices[case].0,
+            reach: self.reach,
+        }
+    }
+
     // The best offset of each partition of the pattern with a number, the cost of both, and how many offsets were tried for both.
     fn weigh(&self, number: usize) -> Picked
         requires { number ≤ last_pattern (case_in self.now.input) }
@@ -88,24 +105,11 @@ impl Block<'_> {
             × SidesOf C (pattern_at C number) result.trial0 result.trial1 result.cost
             × (result.tried ≡ tried_at C (pattern_at C number)) }
     {
-        let table = self.input.table;
         let marks = self.pattern_at(number);
         let k = side_case(self.size, marks, false);
         let (part0, part1) = self.layers.parts(marks);
-        let search0 = Search {
-            part: part0,
-            table,
-            at: self.indices[k].0,
-            reach: self.reach,
-        };
-        let search1 = Search {
-            part: part1,
-            table,
-            at: self.indices[(k + 4) % 8].0,
-            reach: self.reach,
-        };
-        let unmarked = search0.best_offset();
-        let marked = search1.best_offset();
+        let unmarked = self.search(part0, k).best_offset();
+        let marked = self.search(part1, (k + 4) % 8).best_offset();
         let tried0 = unmarked.tried(self.reach);
         let tried1 = marked.tried(self.reach);
         Picked {
@@ -118,8 +122,8 @@ impl Block<'_> {
     }
 }
 
-// The first pattern of least cost, and how many offsets were tried for all patterns. It keeps a frame of its own, so that a caller that
-// builds the list first needs no stack for its arrays meanwhile.
+// The first pattern of least cost, and how many offsets were tried for all patterns. It is not inlined, so that its arrays take stack only
+// while it runs, and not while a caller builds the list first.
 #[inline(never)]
 pub(crate) fn best_pattern(input: Input) -> Picked
     requires { choose_refusal (case_in input) ≡ 0 }
@@ -145,7 +149,9 @@ pub(crate) fn best_pattern(input: Input) -> Picked
     };
     let end = block.patterns();
     let mut best = block.weigh(0);
-    // The patterns are run over by number, and not as a list, since the contour comes after the list's entries.
+    // The patterns are run over by number, and not as a list, since the contour comes after the list's entries. It is no `fold`: that the
+    // counts of offsets add up without overflow follows from all patterns before, as the loop's invariant says, and for a closure it would
+    // take lemmas of its own.
     for number in 1..end {
         let next = block.weigh(number);
         let tried = best.tried + next.tried;

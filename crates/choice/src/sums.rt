@@ -18,7 +18,8 @@ fn take_sample(sums: &mut [u16; 256], width: usize, sample: u8)
     }
 }
 
-// Puts the sums of all samples into the caller's array of zeros: in row r at b that of the samples from 8r on that the byte b marks.
+// Puts the sums of all samples into the caller's array of zeros: in row r at b that of the samples from 8r on that the byte b marks. A
+// sample's row and its bit are `k / 8` and `k % 8`, and by `chunks` there would be two loops.
 #[inline(never)]
 pub(crate) fn put_sums(samples: &[u8], sums: &mut SumRows)
     requires { (length samples.now ≤ greatest_samples) × (sums.old ≡ replicate 32 (replicate 256 0)) }
@@ -33,7 +34,7 @@ pub(crate) fn put_sums(samples: &[u8], sums: &mut SumRows)
 // for the range of every number in the rows, and of rows of rows only that of a number that is read is known.
 pub(crate) fn word_sum(sums: &SumRows, i: usize, w: u64) -> u32
     requires { i < 4 }
-    ensures { (result ≡ bytes_sum sums.now i w 8) × (result ≤ 524280) }
+    ensures { result ≡ bytes_sum sums.now i w 8 }
 {
     let mut sum: u32 = 0;
     for (k, &byte) in w.to_le_bytes().iter().enumerate() {

@@ -11,7 +11,7 @@ use Rattle.choice.specs.Search.{trial_cost}
 use Rattle.choice.specs.Trial.{TrialOf}
 use Rattle.choice.proofs.AcceptLaws.{accepted}
 use Rattle.choice.proofs.CaseLaws.{other-case}
-use Rattle.choice.proofs.WeighLaws.{word_small, findable, trial-weighed, reach_few, reach-used}
+use Rattle.choice.proofs.WeighLaws.{word_small, trial-weighed, reach_few, reach-used}
 use Rattle.choice.proofs.TrialLaws.{trial-low}
 use Rattle.choice.proofs.TriedLaws.{tried_here}
 use Rattle.choice.proofs.SearchLaws.{weighable, sides-at, both-sides, both-tried}
@@ -43,17 +43,8 @@ parts-requires c =
     let g = (goal.at.parts-requires c).After-pattern_at-marks in
     word_small _ _ _ _ _ _ (weighs g) _ _ _ (prepared g) c.args.self.now.layers.bytes
 
-pub invariant_of-search0 : goal.invariant_of-search0
-invariant_of-search0 c =
-    let g = (goal.at.invariant_of-search0 c).After-pattern_at-marks in
-    let k = side (goal.at.invariant_of-search0 c).After-side_case-k in
-    record { findable = findable _ _ _ _ _ _ (weighs g) _ _ _ (prepared g) c.args.self.now.layers.bytes false k c.side_case-k.ensures.1 c.parts.ensures.1 }
-
-pub invariant_of-search1 : goal.invariant_of-search1
-invariant_of-search1 c =
-    let g = (goal.at.invariant_of-search1 c).After-pattern_at-marks in
-    let k = other-case _ _ (side (goal.at.invariant_of-search1 c).After-side_case-k) in
-    record { findable = findable _ _ _ _ _ _ (weighs g) _ _ _ (prepared g) c.args.self.now.layers.bytes true k (omega arith) refl }
+pub search-requires : goal.search-requires
+search-requires c = c.side_case-k.ensures.1
 
 -- the best offset of each partition
 unmarked :
@@ -65,7 +56,7 @@ unmarked :
 unmarked c =
     let g = (goal.at.After-best_offset-unmarked c).After-pattern_at-marks in
     let k = side (goal.at.After-best_offset-unmarked c).After-side_case-k in
-    let t = rw c.parts.ensures.0 at c.best_offset-unmarked.ensures in
+    let t = rw (c.search.ensures.0, c.search.ensures.1, c.search.ensures.2, c.search.ensures.3, c.parts.ensures.0) at c.best_offset-unmarked.ensures in
     trial-weighed _ _ _ _ _ _ (weighs g) _ _ _ (prepared g) c.args.self.now.layers.bytes false k c.side_case-k.ensures.1 c.parts.ensures.1 t
 
 marked :
@@ -76,7 +67,8 @@ marked :
     TrialOf (trial_cost C (pattern_number c.pattern_at-marks.result) true) (2 * reach_in_use C) t.number t.cost
 marked c =
     let g = (goal.at.After-best_offset-marked c).After-pattern_at-marks in
-    let t = rw (c.parts.ensures.2, c.parts.ensures.3) at c.best_offset-marked.ensures in
+    let e = c.search-2.ensures in
+    let t = rw (e.0, e.1, e.2, e.3, c.parts.ensures.2, c.parts.ensures.3) at c.best_offset-marked.ensures in
     trial-weighed _ _ _ _ _ _ (weighs g) _ _ _ (prepared g) c.args.self.now.layers.bytes true (other-case _ _ (side (goal.at.After-best_offset-marked c).After-side_case-k)) (omega arith) refl t
 
 pub tried-tried0-requires : goal.tried-tried0-requires
