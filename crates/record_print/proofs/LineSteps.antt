@@ -1,11 +1,14 @@
--- A line of four numbers, written one after the other.
-use Prim.Native.Nat.{ℕ, ◌<◌}
-use mathlib.Core.Path.{◌≡◌}
+-- A line of four numbers, its fields written in turn.
+use Prim.Native.Nat.{ℕ, zero, suc, ◌+◌, ◌*◌, ◌≤◌, ◌<◌}
+use mathlib.Core.Path.{◌≡◌, refl, sym, ◌∙◌, ap}
 use mathlib.Core.Bool.{true}
 use mathlib.Core.List.{List, [], ◌∷◌, ◌++◌, append_assoc, append-nil}
+use native.Mathlib.Numerals.{add-one}
 use native.Mathlib.Omega.{arith}
+use lib.Dec.{eqb}
 use lib.IntN.{ℤ, pos, negsuc, nat_abs}
-use lib.ListN.{length, get_or}
+use lib.ListN.{length, get_or, drop, drop_of_length-le}
+use lib.Seq.{drop-cons}
 use borrow.Author.Tests.{ltb-true}
 use mir.Syntax.{w64}
 use mir.Val.{SFits, to_z, of_z}
@@ -14,7 +17,8 @@ use Rattle.std.specs.List.{list_all}
 use Rattle.arith.proofs.Bools.{both_of}
 use Rattle.record_text.specs.Numeral.{numeral_end}
 use Rattle.record_text.specs.Field.{signed_text}
-use Rattle.record_text.specs.Line.{line_text}
+use Rattle.record_text.specs.Line.{end_byte, line_text}
+use Rattle.record_text.proofs.LineSteps.{end-at}
 use Rattle.record_print.specs.Put.{signed_printable}
 
 -- a number that has a numeral stands for itself in a word of the machine
@@ -29,33 +33,51 @@ word_back z h = to_z-of_z w64 z (fits z (ltb-true (nat_abs z) numeral_end h))
 abbrev pub word : List ℤ → ℕ → ℤ
 word l k = to_z w64 (of_z w64 (get_or l k (pos 0)))
 
--- each of them has a numeral, and their fields are the line
-pub record Words (l : List ℤ) : Type 0 where
-  pub first : nat_abs (word l 0) < numeral_end
-  pub second : nat_abs (word l 1) < numeral_end
-  pub third : nat_abs (word l 2) < numeral_end
-  pub fourth : nat_abs (word l 3) < numeral_end
-  pub text : ((signed_text 32 (word l 0) ++ signed_text 32 (word l 1)) ++ signed_text 32 (word l 2)) ++ signed_text 10 (word l 3) ≡ line_text l
+-- each number of a line that can be printed has a numeral
+printable_at : (l : List ℤ) (k : ℕ) → list_all signed_printable l ≡ true → signed_printable (get_or l k (pos 0)) ≡ true
+printable_at [] k h = refl
+printable_at (z ∷ l) zero h = (both_of (signed_printable z) (list_all signed_printable l) h).0
+printable_at (z ∷ l) (suc k) h = printable_at l k (both_of (signed_printable z) (list_all signed_printable l) h).1
 
--- so it is of a line of four that can be printed
-pub words : (l : List ℤ) → length l ≡ 4 → list_all signed_printable l ≡ true → Words l
-words (a ∷ b ∷ c ∷ d ∷ []) e h =
-    let p = both_of (signed_printable a) (list_all signed_printable (b ∷ c ∷ d ∷ [])) h in
-    let q = both_of (signed_printable b) (list_all signed_printable (c ∷ d ∷ [])) p.1 in
-    let r = both_of (signed_printable c) (list_all signed_printable (d ∷ [])) q.1 in
-    let s = both_of (signed_printable d) true r.1 in
-    record {
-      first = small a p.0;
-      second = small b q.0;
-      third = small c r.0;
-      fourth = small d s.0;
-      text = rw (word_back a p.0, word_back b q.0, word_back c r.0, word_back d s.0) (simp (append_assoc, append-nil));
-    }
-  where
-    small : (z : ℤ) → signed_printable z ≡ true → nat_abs (to_z w64 (of_z w64 z)) < numeral_end
-    small z h = rw (word_back z h) (ltb-true (nat_abs z) numeral_end h)
-words [] e h = absurd (omega arith)
-words (a ∷ []) e h = absurd (omega arith)
-words (a ∷ b ∷ []) e h = absurd (omega arith)
-words (a ∷ b ∷ c ∷ []) e h = absurd (omega arith)
-words (a ∷ b ∷ c ∷ d ∷ f ∷ l) e h = absurd (omega arith)
+-- the last of four has the number 3
+last_of_four : (k : ℕ) → k < 4 → eqb (k + 1) 4 ≡ eqb k 3
+last_of_four zero h = refl
+last_of_four (suc zero) h = refl
+last_of_four (suc (suc zero)) h = refl
+last_of_four (suc (suc (suc zero))) h = refl
+last_of_four (suc (suc (suc (suc k)))) h = absurd (omega (arith, h))
+
+-- k fields of a line are written: the others after them give the whole line
+pub record Begun (l : List ℤ) (k : ℕ) (s : List ℕ) : Type 0 where
+  pub text : s ++ line_text (drop k l) ≡ line_text l
+  pub short : length s ≤ 7 * k
+
+-- none is written at first
+pub begun-none : (l : List ℤ) {s : List ℕ} → s ≡ [] → Begun l 0 s
+begun-none l e = record { text = rw e; short = rw e (omega arith) }
+
+module _ (l : List ℤ) (four : length l ≡ 4) (printable : list_all signed_printable l ≡ true) {k : ℕ} {s : List ℕ} (now : Begun l k s) where
+  -- the next one has a numeral and room
+  pub begun-room : k < 4 → (nat_abs (word l k) < numeral_end) × (length s + 7 ≤ 32)
+  begun-room h =
+      let p = printable_at l k printable in (
+        rw (word_back (get_or l k (pos 0)) p) (ltb-true (nat_abs (get_or l k (pos 0))) numeral_end p),
+        omega (arith, now.short),
+      )
+
+  -- and then it is written
+  pub begun-more :
+      {t : List ℕ} {b : ℕ} → k < 4 → b ≡ end_byte (eqb k 3) → t ≡ s ++ signed_text b (word l k) → length t ≤ length s + 7 → Begun l (k + 1) t
+  begun-more {t} {b} h e q r =
+      let i : k < length l = omega (arith, four) in
+      let p = word_back (get_or l k (pos 0)) (printable_at l k printable) in
+      let last : eqb (k + 1) (length l) ≡ eqb k 3 = ap (eqb (k + 1)) four ∙ last_of_four k h in
+      let here : line_text (drop k l) ≡ signed_text b (word l k) ++ line_text (drop (suc k) l) = rw (drop-cons l k (pos 0) i, end-at l k i, last, e, p) in
+      record {
+        text = rw (add-one k, q, append_assoc s (signed_text b (word l k)) (line_text (drop (suc k) l)), ← here) now.text;
+        short = omega (arith, now.short, r);
+      }
+
+  -- all are
+  pub begun-all : 4 ≤ k → s ≡ line_text l
+  begun-all h = sym (append-nil s) ∙ ap (λ (x : List ℕ). s ++ x) (sym (ap line_text (drop_of_length-le l (omega (arith, four))))) ∙ now.text

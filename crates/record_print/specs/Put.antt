@@ -25,7 +25,8 @@ pub record Written (old new : List ℕ) (at : ℕ) (text : List ℕ) (next : ℕ
   pub lent : new ≡ sets old at text
   pub place : next ≡ at + length text
 
--- the same of a text made from the start of bytes of its own: `len` of them are the text
+-- the same of a text made from the start of bytes of its own: `len` of them are the text. No proof of the code uses it, only the laws of
+-- proofs/Uncited.antt do.
 pub record Made (bytes text : List ℕ) (len : ℕ) : Type 0 where
   pub inside : len ≤ length bytes
   pub is : take len bytes ≡ text

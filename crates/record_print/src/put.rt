@@ -37,7 +37,7 @@ pub fn put_title(out: &mut [u8], from: Cursor, title: Title) -> Cursor
     put_text(out, from, title.bytes())
 }
 
-// A number and the byte `end`; nothing for a number without a numeral.
+// A number and the byte `end`; nothing for a number without a numeral, since it is promised that this cannot fail.
 pub fn put_number(out: &mut [u8], from: Cursor, x: u32, end: u8) -> Cursor
     ensures { Put out.old out.new from (printed_if (number_printable x) (number_text end x)) result }
 {

@@ -1,4 +1,5 @@
-// Writing a line of numbers: it is made apart, and then put where there is room.
+// Writing a line of numbers: it is made apart, and then put where there is room. `SizeFields` and `Record` have no `Display`: their lines
+// are promised byte by byte, and a `Display` promises nothing of its bytes.
 ghost use Rattle.std.specs.Prelude.{◌≡◌, length};
 ghost use Rattle.std.specs.List.{list_all};
 ghost use Rattle.record_text.specs.Line.{line_text, size_text, record_text};
@@ -9,7 +10,7 @@ use crate::put::put_text;
 use crate::write::{NUMERAL_END, push_field};
 use arrayvec::ArrayVec;
 use record::Record;
-use record_text::SizeFields;
+use record_text::{SizeFields, end_byte};
 
 // Whether each of a line's numbers has a numeral behind its sign.
 fn all_printable(numbers: &[i64]) -> bool
@@ -20,7 +21,7 @@ fn all_printable(numbers: &[i64]) -> bool
         .all(|z| z.unsigned_abs() < u64::from(NUMERAL_END))
 }
 
-// A line of numbers; nothing where one has no numeral.
+// A line of numbers; nothing where one has no numeral, since it is promised that this cannot fail.
 fn put_line(out: &mut [u8], from: Cursor, numbers: [i64; 4]) -> Cursor
     requires { length numbers ≡ 4 }
     ensures { Put out.old out.new from (printed_if (line_printable numbers) (line_text numbers)) result }
@@ -28,16 +29,14 @@ fn put_line(out: &mut [u8], from: Cursor, numbers: [i64; 4]) -> Cursor
     if !all_printable(&numbers) {
         return from;
     }
-    let [first, second, third, fourth] = numbers;
     let mut line = ArrayVec::new();
-    push_field(&mut line, first, b' ');
-    push_field(&mut line, second, b' ');
-    push_field(&mut line, third, b' ');
-    push_field(&mut line, fourth, b'\n');
+    for (i, &z) in numbers.iter().enumerate() {
+        push_field(&mut line, z, end_byte(i == 3));
+    }
     put_text(out, from, line.as_slice())
 }
 
-// The line of the size; nothing where a number has no numeral.
+// The line of the size; nothing where a number has no numeral, as in `put_line`.
 #[tactic(auto, unfolding(crate::specs::Put::size_printable, record_text::specs::Line::size_text))]
 pub fn put_size_line(out: &mut [u8], from: Cursor, h: SizeFields) -> Cursor
     ensures { Put out.old out.new from (printed_if (size_printable h) (size_text h)) result }
@@ -51,7 +50,7 @@ pub fn put_size_line(out: &mut [u8], from: Cursor, h: SizeFields) -> Cursor
     put_line(out, from, numbers)
 }
 
-// The line of a record; nothing where a number has no numeral.
+// The line of a record; nothing where a number has no numeral, as in `put_line`.
 #[tactic(auto, unfolding(crate::specs::Put::record_printable, record_text::specs::Line::record_text))]
 pub fn put_record_line(out: &mut [u8], from: Cursor, r: Record) -> Cursor
     ensures { Put out.old out.new from (printed_if (record_printable r) (record_text r)) result }

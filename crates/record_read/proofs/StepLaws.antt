@@ -29,23 +29,10 @@ use Rattle.record_file.specs.Reading.{Aids, record_line_meaning, unchanged, reco
 use Rattle.record_read.specs.declared.blocks.Reading.{Reading}
 use Rattle.record_read.specs.declared.lines.LineRefusal.{LineRefusal}
 use Rattle.record_read.specs.Back.{in_turn, records_over}
-use Rattle.record_read.specs.Told.{end_lined}
+use Rattle.record_read.specs.Told.{at_line, end_lined}
 use Rattle.record_read.specs.Step.{one_list, meaning_in, Steps, Begun, ReadsAll, placed_all}
 use Rattle.record_read.proofs.ReadLaws.{Going, going_start, going_more, going-refused, going_end, put_next, stored_all, same-refusal}
 use Rattle.record_read.proofs.RestLaws.{in-turn-none, in-turn-more, in-turn-ext, place-means, placeable-after}
-
--- ---- a refusal at a line
-
-abbrev pub put_at : {A : Type 0} → ℕ → Result A Refusal → Result A LineRefusal
-put_at k (Ok a) = Ok a
-put_at k (Err e) = Err (record { refusal = e; line = k })
-
--- what `map_err` answers, by cases
-pub at_line :
-    {A : Type 0} (t : Result A Refusal) (x : Result A LineRefusal) (k : ℕ) → ((a : A) → t ≡ Ok a → x ≡ Ok a)
-    → ((e : Refusal) → t ≡ Err e → x ≡ Err (record { refusal = e; line = k })) → x ≡ put_at k t
-at_line (Ok a) x k f g = f a refl
-at_line (Err e) x k f g = g e refl
 
 -- ---- a step
 
@@ -68,7 +55,7 @@ module _ (I : PlaceInput) (t : List ℕ) (r : Reading) (ok : Fits r.sheet (mater
   -- the line has its form, and the record is placed, or refused
   module _ (f : Record) (rest : Bor (List ℕ)) (form : found f rest.now ≡ record_line r.rest.now) where
     pub step-placed :
-        {t' : List ℕ} (a : Result Sheet Refusal) (x : Result Sheet LineRefusal) → x ≡ put_at r.line a → told (λ S. S) a ≡ place_values_answer r.sheet t material f
+        {t' : List ℕ} (a : Result Sheet Refusal) (x : Result Sheet LineRefusal) → x ≡ at_line r.line a → told (λ S. S) a ≡ place_values_answer r.sheet t material f
         → t' ≡ place_values_after r.sheet t material f → Steps I r t t' (step_of r f rest x)
     unfolding place_answer_by place_after_by
     step-placed (Ok S) x e a d =

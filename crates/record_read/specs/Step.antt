@@ -82,7 +82,7 @@ pub record FrontSound (texture : ℕ) (f : Front) : Type 0 where
   pub size : size_meaning texture (front_size f) ≡ 0
   pub empty : f.sheet.placed ≡ 0
 
--- what they hold where they are read
+-- what the lines before the records hold, where those are read from the bytes s
 pub record FrontRead (texture : ℕ) (s : List ℕ) (f : Front) : Type 0 where
   pub is : read (front_size f, table_of f) f.rest.now ≡ front_lines texture s
   pub sound : FrontSound texture f

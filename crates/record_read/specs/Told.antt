@@ -2,6 +2,7 @@
 use Rattle.std.specs.Prelude.{ℕ, List, [], Result, Ok, Err}
 use Rattle.std.specs.Borrow.{Bor}
 use Rattle.pattern.specs.Refusal.{number_of}
+use Rattle.pattern.specs.declared.refusals.Refusal.{Refusal}
 use Rattle.record_text.specs.declared.fields.SizeFields.{SizeFields}
 use Rattle.record_text.specs.Lines.{Lined, refused_at, read}
 use Rattle.record_file.specs.Text.{size_fields_of}
@@ -12,6 +13,11 @@ use Rattle.record_read.specs.declared.lines.LineRefusal.{LineRefusal}
 abbrev pub lined_by : {A X : Type 0} → (A → X) → (A → List ℕ) → Result A LineRefusal → Lined X
 lined_by value rest (Ok a) = read (value a) (rest a)
 lined_by value rest (Err e) = refused_at (number_of e.refusal) e.line
+
+-- an answer whose refusal is given for line k
+abbrev pub at_line : {A : Type 0} → ℕ → Result A Refusal → Result A LineRefusal
+at_line k (Ok a) = Ok a
+at_line k (Err e) = Err (record { refusal = e; line = k })
 
 -- a value with the bytes after it
 abbrev pub lined : {A : Type 0} → Result (A × Bor (List ℕ)) LineRefusal → Lined A

@@ -6,7 +6,7 @@ ghost use Rattle.sheet.specs.Place.{Fits};
 ghost use Rattle.sheet.specs.Told.{material_in};
 ghost use Rattle.record_read.specs.Step.{Steps, Begun, ReadsAll};
 
-use crate::lines::{LineRefusal, bad_form};
+use crate::lines::{LineRefusal, at_line, bad_form};
 use record::Record;
 use record_text::read_record_line;
 use sheet::{PlaceInput, Sheet};
@@ -19,7 +19,8 @@ pub(crate) struct Reading<'a> {
     pub sheet: Sheet,
 }
 
-// The line of the next block's record: the record is placed on the samples, or refused at its line.
+// The line of the next block's record: the record is placed on the samples, or refused at its line. `Fits` is a clause, as at `Drawing` of
+// the crate `sheet`: a struct that holds a `&mut` slice needs a clause in each function that it still is the same slice.
 fn read_block<'a>(
     from: Reading<'a>,
     samples: &mut [u8],
@@ -30,10 +31,8 @@ fn read_block<'a>(
 {
     let line = from.line;
     let (record, rest) = read_record_line(from.rest).ok_or(bad_form(line))?;
-    let sheet = from
-        .sheet
-        .place_from_values(samples, input, record)
-        .map_err(|refusal| LineRefusal { refusal, line })?;
+    let placed = from.sheet.place_from_values(samples, input, record);
+    let sheet = at_line(placed, line)?;
     Ok((
         record,
         Reading {
@@ -56,7 +55,7 @@ fn check_end(from: Reading) -> Result<(), LineRefusal>
 }
 
 // The lines of all blocks' records, and the end of the bytes after them: each record is placed on the samples and stored. The finished
-// state is answered.
+// state is answered. The samples and the records are in no struct, since they are `&mut` slices, as in `read_block`.
 #[tactic(auto, using(crate::proofs::StepLaws::turns))]
 pub(crate) fn read_blocks(
     from: Reading,

@@ -8,7 +8,7 @@ ghost use Rattle.record_text.specs.Line.{size_line, value_line};
 ghost use Rattle.record_text.specs.Lines.{line as judged_line, no_meaning, read};
 ghost use Rattle.record_text.specs.Told.{title_text};
 ghost use Rattle.record_file.specs.Reading.{size_meaning, value_meaning, value_lines};
-ghost use Rattle.record_read.specs.Told.{lined, lined_by, head_fields, head_lined, text_lined};
+ghost use Rattle.record_read.specs.Told.{at_line, lined, lined_by, head_fields, head_lined, text_lined};
 
 use crate::head::Head;
 use arrayvec::ArrayVec;
@@ -17,8 +17,8 @@ use pattern::{Refusal, check, texture_ok};
 use record_text::{SizeFields, Title, read_size_line, read_title, read_value_line};
 use sheet::Sheet;
 
-// A refusal and the line that it is given for, counted from 1. It is 0 where no line is read, as it is shown to people and to C, so that an
-// `Option` would only be made a 0 again.
+// A refusal and the line that it is given for, counted from 1. It is 0 where no line is read, as it is shown to people and to C, so that
+// an `Option` would only be made a 0 again.
 #[derive(Clone, Copy)]
 pub struct LineRefusal {
     pub refusal: Refusal,
@@ -35,7 +35,14 @@ pub(crate) fn bad_form(line: u32) -> LineRefusal
     }
 }
 
-// A title line.
+// An answer, its refusal given for a line.
+pub(crate) fn at_line<T>(answer: Result<T, Refusal>, line: u32) -> Result<T, LineRefusal>
+    ensures { result ≡ at_line line answer }
+{
+    answer.map_err(|refusal| LineRefusal { refusal, line })
+}
+
+// A title line. The bytes and the number of a line are in no struct: both are others at each line, and it would be made anew for each.
 pub(crate) fn title_line(bytes: &[u8], title: Title, line: u32) -> Result<&[u8], LineRefusal>
     ensures { text_lined result ≡ judged_line line (exactly (title_text title) bytes.now) no_meaning read }
 {
@@ -60,7 +67,7 @@ pub(crate) fn size_line(bytes: &[u8], texture: usize) -> Result<(Head, &[u8]), L
 {
     let line = 2;
     let (size, rest) = read_size_line(bytes).ok_or(bad_form(line))?;
-    let head = new_head(size, texture).map_err(|refusal| LineRefusal { refusal, line })?;
+    let head = at_line(new_head(size, texture), line)?;
     Ok((head, rest))
 }
 
@@ -70,15 +77,12 @@ pub(crate) fn value_line(bytes: &[u8], low: u32, line: u32) -> Result<(u8, &[u8]
     ensures { lined result ≡ judged_line line (value_line bytes.now) (value_meaning low) read }
 {
     let (value, rest) = read_value_line(bytes).ok_or(bad_form(line))?;
-    check(low <= value && value < 256, Refusal::Table).map_err(|refusal| LineRefusal {
-        refusal,
-        line,
-    })?;
+    let sound = check(low <= value && value < 256, Refusal::Table);
+    at_line(sound, line)?;
     Ok((value as u8, rest))
 }
 
-// The lines of a table's values, from line 4 on, and the bytes after them. The loop counts the lines, since a refusal names its own.
-#[tactic(auto, using(crate::proofs::ReadLaws::going_more))]
+// The lines of a table's values, from line 4 on, and the bytes after them. The loop has the line's number, since a refusal names its own.
 pub(crate) fn read_values(
     bytes: &[u8],
     values: u32,
@@ -89,8 +93,8 @@ pub(crate) fn read_values(
     let mut table = ArrayVec::new();
     let mut rest = bytes;
     let mut low = 0;
-    for i in 0..values {
-        let (value, after) = value_line(rest, low, 4 + i)?;
+    for line in 4..4 + values {
+        let (value, after) = value_line(rest, low, line)?;
         table.push(value);
         low = u32::from(value) + 1;
         rest = after;

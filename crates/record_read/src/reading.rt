@@ -54,7 +54,8 @@ fn lengths_ok(input: ReadInput, samples: usize, records: usize) -> bool
     MOST_SAMPLES <= samples && MOST_BLOCKS <= records && lists_ok(input)
 }
 
-// The sheet after the lines before its records. It is read into arrays of this function, and copied to what is lent once all is read.
+// The sheet after the lines before its records. It is read into arrays of this function, and copied to what is lent once all is read. The
+// samples and the records are in no struct, since they are `&mut` slices, as in `read_block`.
 fn read_with<const SAMPLES: usize, const BLOCKS: usize>(
     front: Front,
     input: ReadInput,

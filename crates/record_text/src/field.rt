@@ -12,7 +12,8 @@ fn digit(b: u8) -> Option<u32>
     char::from(b).to_digit(10)
 }
 
-// At most `most` digits more after those of `first`, and the byte `end`: their value, and the bytes after them.
+// At most `most` digits more after those of `first`, and the byte `end`: their value, and the bytes after them. The bytes and `end` are
+// in no struct: the bytes are others at each call, and it would be made anew for each.
 #[tactic(auto, using(crate::proofs::ReadSteps::digit_steps))]
 fn read_digits(bytes: &[u8], end: u8, most: usize, first: u32) -> Option<(u32, &[u8])>
     requires { (first + 1) * 10 ^ most ≤ numeral_end }

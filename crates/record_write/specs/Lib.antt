@@ -1,1 +1,1 @@
--- Writing.
+-- Writing: its definitions stand in record_file/specs/Writing.antt.

@@ -44,7 +44,8 @@ fn check_records(setting: Setting, records: &[[i32; 4]]) -> Result<(), Refusal>
 }
 
 impl<'a> Source<'a> {
-    // Whether what is lent to writing is long enough, and the list's count is allowed.
+    // Whether what is lent to writing is long enough, and the list's count is allowed. The list and the space are parameters: `Source` has
+    // what the definition `source_of` has, and a struct of these two would have no meaning of its own.
     #[tactic(auto, unfolding(record_file::specs::Writing::write_lengths_ok))]
     fn lengths_ok(self, list: PatternList, space: usize) -> bool
         ensures { let W = self.entry in let L = list.entry in

@@ -16,7 +16,8 @@ use choice::Choice;
 use pattern::{Refusal, check};
 
 impl Sheet {
-    // Chooses the record of the next block, and draws it from the neighbours and the texture that it was chosen for.
+    // Chooses the record of the next block, and draws it from the neighbours and the texture that it was chosen for. `Fits` is a clause,
+    // as at `Drawing`: the samples are a `&mut` slice.
     fn compose_next(self, samples: &mut [u8], input: ComposeInput) -> Result<Choice, Refusal>
         requires fits { Fits self (material_in self.n input.place) (length samples.old) }
         requires whole { length input.original.now ≡ area self }
@@ -28,7 +29,8 @@ impl Sheet {
         self.next_drawing(samples, input, &mut room).choose(samples)
     }
 
-    // Chooses, places and records every missing block in turn. The choice for the first block is refused where any would be.
+    // Chooses, places and records every missing block in turn. The choice for the first block is refused where any would be. The samples
+    // and the records stand beside each other and in no struct, as at `Drawing`: they are `&mut` slices.
     fn compose_missing(
         mut self,
         samples: &mut [u8],

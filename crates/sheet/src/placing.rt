@@ -13,7 +13,9 @@ use pattern::{Refusal, check};
 use record::Record;
 
 impl Sheet {
-    // Draws a record in the next place, or refuses it with 7, 21, 6, 5, 4 or 24. No original samples and no reach are read.
+    // Draws a record in the next place, or refuses it with 7, 21, 6, 5, 4 or 24. No original samples and no reach are read: none and 0
+    // stand for them, as in the definition `place_case`, and an `Option` would only be made these again. `Fits` is a clause, as at
+    // `Drawing`: the samples are a `&mut` slice.
     fn draw_next(self, samples: &mut [u8], input: PlaceInput, r: Record) -> Result<(), Refusal>
         requires { Fits self (material_in self.n input) (length samples.old) }
         ensures number { let M = material_in self.n input.entry in refusal_in result ≡ material_refusal self M r }

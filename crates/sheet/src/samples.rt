@@ -1,4 +1,5 @@
-// One block of a sheet's samples: cut out, and put.
+// One block of a sheet's samples: cut out, and put. `cut` is as `block_by` of the crate `block`, and `put` as its `put_samples`, but in
+// rows of the sheet: one function for both would be public there, with a width and a place beside n in its contract.
 ghost use Rattle.std.specs.Prelude.{◌≡◌, ◌+◌, ◌*◌, ◌<◌, ◌≤◌, cond, length, get_or, []};
 ghost use Rattle.arith.specs.Lists.{upto};
 ghost use Rattle.block.specs.Block as rows;

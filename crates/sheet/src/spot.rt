@@ -5,7 +5,8 @@ ghost use Rattle.pattern.specs.Size.{size_ok};
 
 use pattern::{NEIGHBOURS, SAMPLES};
 
-// A block's size, the width of its sheet, and the column and the row of its first sample.
+// A block's size, the width of its sheet, and the column and the row of its first sample. The size is a number and no `Size`: in each
+// clause `size.n` would stand for n, to spare one ghost field.
 #[derive(Clone, Copy)]
 pub(crate) struct Spot {
     pub n: usize,

@@ -20,7 +20,7 @@ fn side_ok(n: u32, side: u32) -> bool
     n <= side && side as usize <= LONGEST && side.is_multiple_of(n)
 }
 
-// Whether both sides are allowed.
+// Whether both sides are allowed. The three numbers stand in no struct: the public `check_sides` and `new` have them as parameters.
 fn sides_ok(n: u32, width: u32, height: u32) -> bool
     ensures { result ≡ sides_ok_by n width height }
 {
@@ -58,7 +58,7 @@ impl Sheet {
         self.width as usize * self.height as usize
     }
 
-    // The number of its blocks, 0 where n is 0.
+    // The number of its blocks, 0 where n is 0: it is promised that this cannot fail.
     pub fn blocks(self) -> u64
         ensures { result ≡ blocks_of self }
     {
@@ -116,7 +116,9 @@ impl Sheet {
             y: (self.placed / across * self.n) as usize,
         }
     }
+
     // The next block as it is drawn: its neighbours, and its own part of the original samples and of the texture, in the lent arrays.
+    // `Fits` is a clause, as at `Drawing`: the caller has the samples as a `&mut` slice.
     pub(crate) fn next_drawing<'a>(
         self,
         samples: &[u8],
