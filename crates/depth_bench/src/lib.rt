@@ -2,10 +2,9 @@
 // struct with the number of its refusal.
 #![tactic(auto)]
 
-ghost use Rattle.std.specs.Prelude.{◌≡◌, true, ◌*◌, ltb, length, get_or};
+ghost use Rattle.std.specs.Prelude.{◌≡◌, ◌*◌, ltb, length, get_or};
 ghost use Rattle.arith.specs.Checks.{unless, answer};
 ghost use Rattle.pattern.specs.Refusal.{told};
-ghost use Rattle.pattern.specs.Size.{size_ok};
 ghost use Rattle.pattern.specs.Words.{pattern_number, in_four, used_number, patterns_of};
 ghost use Rattle.wedgelet.specs.Wedgelet.{wedgelet_list};
 ghost use Rattle.prediction.specs.Answer.{predict_answer, predict_block};
@@ -14,7 +13,7 @@ ghost use Rattle.choice.specs.Case.{case_of, case_in};
 ghost use Rattle.depth_bench.specs.Built.{built_list, built_case, pattern_answer};
 ghost use Rattle.depth_bench.specs.Structs.{prediction_struct, choice_struct, LeastChoice, pattern_struct, words_struct};
 
-use pattern::{PatternList, Refusal, WORDS};
+use pattern::{PatternList, Refusal, Size, WORDS};
 use record::Kind;
 use wedgelet::LIST_WORDS;
 
@@ -185,32 +184,32 @@ pub fn depth_bench_choose(input: ChoiceInput) -> Choice
     Choice::from(input.choose())
 }
 
-// The pattern of an entry of the wedgelet list for n; or refusal 6.
-fn listed_pattern(n: usize, entry: u32) -> Result<pattern::Pattern, Refusal>
-    requires { size_ok n ≡ true }
-    ensures { told pattern_number result
+// The pattern of an entry of the wedgelet list for a size; or refusal 6.
+fn listed_pattern(size: Size, entry: u32) -> Result<pattern::Pattern, Refusal>
+    ensures { let n = size.n in told pattern_number result
         ≡ answer (unless (ltb entry (length (wedgelet_list n))) 6 0) (get_or (built_list n) entry 0) }
 {
     let mut words = [0u64; LIST_WORDS];
-    let count = wedgelet::wedgelets(n, &mut words)?;
+    let count = wedgelet::wedgelets(size.n, &mut words)?;
     let entry = entry as usize;
     pattern::check(entry < count, Refusal::Entry)?;
     let list = PatternList {
         words: &words,
         count,
     };
-    Ok(list.pattern_at(n, entry))
+    Ok(list.pattern_at(size.n, entry))
 }
 
-// The pattern of a kind and an entry: of the wedgelet list for n, or the contour of the texture; or refusal 1, 2, 7, 21 or 6.
+// The pattern of a kind and an entry: of the wedgelet list for n, or the contour of the texture; or refusal 1, 2, 7, 21 or 6. Its
+// parameters are those of C, so that no struct holds them.
 #[tactic(auto, using(crate::proofs::Built::fit), unfolding(crate::specs::Built::pattern_answer, crate::specs::Built::pattern_refusal))]
 fn pattern_of(n: usize, kind: u32, entry: u32, texture: &[u8]) -> Result<pattern::Pattern, Refusal>
     ensures { told pattern_number result ≡ pattern_answer n kind entry texture.now }
 {
-    pattern::check(pattern::size_ok(n), Refusal::Size)?;
+    let size = Size::try_from(n)?;
     pattern::check(pattern::texture_ok(texture.len(), n * n), Refusal::Length)?;
     match Kind::try_from(kind)? {
-        Kind::Wedgelet => listed_pattern(n, entry),
+        Kind::Wedgelet => listed_pattern(size, entry),
         Kind::Contour => {
             record::check_contour(entry, !texture.is_empty())?;
             pattern::contour(n, texture)

@@ -68,8 +68,6 @@ impl From<Result<FileBack, LineRefusal>> for FileRead {
             Err(refused) => FileRead {
                 refusal: u32::from(refused.refusal),
                 line: refused.line,
-                // Written out: that an array's default is these zeros has no proof here.
-                table: [0u8; VALUES],
                 ..FileRead::default()
             },
         }

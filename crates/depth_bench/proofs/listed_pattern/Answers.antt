@@ -4,10 +4,10 @@ use borrow.Author.Rules.{rules}
 use Rattle.depth_bench.proofs.listed_pattern.Goals as goal
 
 pub returns-in_err-count : goal.returns-in_err-count
-returns-in_err-count c = absurd (never_refused c.args.n _ c.requires c.in_err-count.ensures.0)
+returns-in_err-count c = absurd (never_refused c.args.size.n _ c.args.size.allowed c.in_err-count.ensures.0)
 
 pub returns-in_err-check : goal.returns-in_err-check
-returns-in_err-check c = rw (← built_count c.args.n _ c.in_ok-count.ensures.0) (search rules)
+returns-in_err-check c = rw (← built_count c.args.size.n _ c.in_ok-count.ensures.0) (search rules)
 
 pub returns : goal.returns
-returns c = rw (← built_count c.args.n _ c.in_ok-count.ensures.0, ← c.in_ok-count.ensures.1) (search rules)
+returns c = rw (← built_count c.args.size.n _ c.in_ok-count.ensures.0, ← c.in_ok-count.ensures.1) (search rules)
