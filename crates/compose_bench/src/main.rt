@@ -91,7 +91,7 @@ fn main(rt: HostRuntime) -> io::Result<()> {
     match written {
         Ok(count) => println!(rt; "{side} {count}"),
         Err(refusal) => {
-            let number = u8::from(refusal);
+            let number = u32::from(refusal);
             println!(rt; "{side} refused {number}")
         }
     }

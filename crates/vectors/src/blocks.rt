@@ -8,13 +8,11 @@ impl<P: Print> Case<'_, P> {
     // `sides N W0 W1 W2 W3`: the side depths of a block with this border.
     pub(crate) fn sides(&self) -> io::Result<()> {
         let mut line = self.fields.line();
-        match prediction::side_depths(line.size(), line.pattern(), self.border) {
-            Ok(depths) => {
-                output::number(self.rt, depths.lt.0)?;
-                output::number(self.rt, depths.br.0)
-            }
-            Err(refusal) => output::refused(self.rt, refusal),
-        }
+        let depths = prediction::side_depths(line.size(), line.pattern(), self.border);
+        output::answer(self.rt, depths, |depths| {
+            output::number(self.rt, depths.lt.0)?;
+            output::number(self.rt, depths.br.0)
+        })
     }
 
     // `predict N W0 W1 W2 W3 OFF0 OFF1`: the number of marks, and the lent block after the call.
@@ -28,10 +26,8 @@ impl<P: Print> Case<'_, P> {
             off0: line.signed(),
             off1: line.signed(),
         };
-        match prediction::predict(input, block) {
-            Ok(marks) => output::number(self.rt, marks)?,
-            Err(refusal) => output::refused(self.rt, refusal)?,
-        }
+        let marks = prediction::predict(input, block);
+        output::answer(self.rt, marks, |marks| output::number(self.rt, marks))?;
         output::samples(self.rt, block, true)
     }
 
@@ -50,16 +46,13 @@ impl<P: Print> Case<'_, P> {
             reach: line.short(),
             texture: self.texture,
         };
-        match choice::choose(input) {
-            Ok(chosen) => {
-                output::number(self.rt, chosen.record.kind)?;
-                output::number(self.rt, chosen.record.entry)?;
-                output::number(self.rt, chosen.record.off0)?;
-                output::number(self.rt, chosen.record.off1)?;
-                output::number(self.rt, chosen.cost)?;
-                output::number(self.rt, chosen.tried)
-            }
-            Err(refusal) => output::refused(self.rt, refusal),
-        }
+        output::answer(self.rt, choice::choose(input), |chosen| {
+            output::number(self.rt, chosen.record.kind)?;
+            output::number(self.rt, chosen.record.entry)?;
+            output::number(self.rt, chosen.record.off0)?;
+            output::number(self.rt, chosen.record.off1)?;
+            output::number(self.rt, chosen.cost)?;
+            output::number(self.rt, chosen.tried)
+        })
     }
 }

@@ -1,43 +1,10 @@
-// The calls of the cases, and what a case gives to its call.
+// What a case gives to its call, and the calls by the words that name them.
 use crate::fields::Fields;
 use std::io;
 
-// A call that a case can name.
-#[derive(Clone, Copy)]
-pub(crate) enum Call {
-    Index,
-    Marks,
-    Contour,
-    Wedgelets,
-    Sides,
-    Predict,
-    Choose,
-    New,
-    Place,
-    Compose,
-}
-
-impl Call {
-    // The call that a word names.
-    pub(crate) fn named(word: &[u8]) -> Option<Call> {
-        match word {
-            b"index" => Some(Call::Index),
-            b"marks" => Some(Call::Marks),
-            b"contour" => Some(Call::Contour),
-            b"wedgelets" => Some(Call::Wedgelets),
-            b"sides" => Some(Call::Sides),
-            b"predict" => Some(Call::Predict),
-            b"choose" => Some(Call::Choose),
-            b"new" => Some(Call::New),
-            b"place" => Some(Call::Place),
-            b"compose" => Some(Call::Compose),
-            _ => None,
-        }
-    }
-}
-
 // A case: its fields, the slices that its call only reads, and the handle that prints its answer. The list and the samples, to which a
-// call can write, stand beside it: a call that is given a struct with such slices needs a clause that they still are the same ones.
+// call can write, stand beside it: in it, each with its own lifetime, `place` and `compose` would lend one through `&mut self` while the
+// other is lent, which the borrow checker does not cover.
 #[derive(Drop)]
 pub(crate) struct Case<'a, P: Print> {
     pub(crate) rt: &'a P,
@@ -49,24 +16,28 @@ pub(crate) struct Case<'a, P: Print> {
 }
 
 impl<'a, P: Print> Case<'a, P> {
-    // Makes the call, and prints its answer.
+    // Makes the call that a word names, and prints its answer; whether it names one. A match, since the calls are lent different slices,
+    // and a table of closures would take a function that hands out function pointers, which the gate refuses. An enum of the calls would
+    // be made by a second such match.
     pub(crate) fn answer(
         &'a self,
-        call: Call,
+        word: &[u8],
         list: &'a mut [u64],
         samples: &mut [u8],
-    ) -> io::Result<()> {
-        match call {
-            Call::Index => self.index(),
-            Call::Marks => self.marks(),
-            Call::Contour => self.contour(),
-            Call::Wedgelets => self.wedgelets(list),
-            Call::Sides => self.sides(),
-            Call::Predict => self.predict(samples),
-            Call::Choose => self.choose(list),
-            Call::New => self.new_sheet(),
-            Call::Place => self.place(list, samples),
-            Call::Compose => self.compose(list, samples),
+    ) -> io::Result<bool> {
+        match word {
+            b"index" => self.index()?,
+            b"marks" => self.marks()?,
+            b"contour" => self.contour()?,
+            b"wedgelets" => self.wedgelets(list)?,
+            b"sides" => self.sides()?,
+            b"predict" => self.predict(samples)?,
+            b"choose" => self.choose(list)?,
+            b"new" => self.new_sheet()?,
+            b"place" => self.place(list, samples)?,
+            b"compose" => self.compose(list, samples)?,
+            _ => return Ok(false),
         }
+        Ok(true)
     }
 }

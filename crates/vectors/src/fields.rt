@@ -2,6 +2,7 @@
 // slice.
 use crate::reader;
 use crate::reader::Field;
+use arrayvec::ArrayVec;
 use pattern::Pattern;
 use record::Record;
 use sheet::Sheet;
@@ -13,7 +14,7 @@ const NUMBERS: usize = 4080;
 // l, n, o, r, s, t and x differ: a map of std is on the heap, which the project does not use.
 #[derive(Drop)]
 pub(crate) struct Fields {
-    numbers: [u64; NUMBERS],
+    numbers: ArrayVec<u64, NUMBERS>,
     bars: [Option<usize>; 16],
 }
 
@@ -103,26 +104,29 @@ fn climb(start: u64, step: u64, out: &mut [u8]) {
 }
 
 impl Fields {
-    // The fields that come first, one space before each, and the bytes after them; no bytes where a space has no field after it.
-    pub(crate) fn read(bytes: &[u8]) -> (Fields, &[u8]) {
-        let mut numbers = [0u64; NUMBERS];
+    // The fields that come first, one space before each, and the bytes after them; none where a space has no field after it.
+    pub(crate) fn read(bytes: &[u8]) -> (Fields, Option<&[u8]>) {
+        let mut numbers = ArrayVec::new();
         let mut bars = [None; 16];
         let mut rest = bytes;
-        for (i, number) in numbers.iter_mut().enumerate() {
+        for i in 0..NUMBERS {
             let Some((b' ', after)) = rest.split_first() else {
                 break;
             };
             let Some((field, after)) = reader::read_field(after) else {
-                rest = &[];
-                break;
+                return (Fields { numbers, bars }, None);
             };
-            match field {
-                Field::Number(value) => *number = value,
-                Field::Bar(letter) => bars[usize::from(letter % 16)] = Some(i + 1),
-            }
+            let number = match field {
+                Field::Number(value) => value,
+                Field::Bar(letter) => {
+                    bars[usize::from(letter % 16)] = Some(i + 1);
+                    0
+                }
+            };
+            numbers.push(number);
             rest = after;
         }
-        (Fields { numbers, bars }, rest)
+        (Fields { numbers, bars }, Some(rest))
     }
 
     // The numbers of the line.

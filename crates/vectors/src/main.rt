@@ -10,22 +10,24 @@ mod patterns;
 mod reader;
 mod sheets;
 
-use call::{Call, Case};
+use call::Case;
 use fields::Fields;
 use reader::TEXT;
 use sheet::MOST_SAMPLES;
 use std::io;
 use wedgelet::LIST_WORDS;
 
-// One sample more than the greatest sheet and the greatest block have, than a block has neighbours, and some values more than a table has.
+// One sample more than the greatest sheet has; a block has fewer.
 const SAMPLES: usize = MOST_SAMPLES + 1;
 
+// One more than the neighbours of the greatest block.
 const NEIGHBOURS: usize = pattern::NEIGHBOURS + 1;
 
+// Some values more than the greatest table has.
 const VALUES: usize = 300;
 
-// Makes the slices of a case, and the call, and prints its answer.
-fn answer(rt: &impl Print, call: Call, fields: &Fields) -> io::Result<()> {
+// Makes the slices of a case, and the call that a word names, and prints its answer; whether the word names a call.
+fn answer(rt: &impl Print, word: &[u8], fields: &Fields) -> io::Result<bool> {
     let mut words = [0u64; LIST_WORDS];
     let mut block = [0u8; SAMPLES];
     let mut neighbours = [0u8; NEIGHBOURS];
@@ -42,7 +44,7 @@ fn answer(rt: &impl Print, call: Call, fields: &Fields) -> io::Result<()> {
         texture: fields.samples(b'x', &mut textures),
         original: fields.samples(b'o', &mut originals),
     };
-    case.answer(call, list, samples)
+    case.answer(word, list, samples)
 }
 
 // Answers the case of a line, which ends in a line end; whether it is a case.
@@ -50,13 +52,10 @@ fn case(rt: &impl Print, line: &[u8]) -> io::Result<bool> {
     let (word, after) = reader::split_digits(line, 36);
     rt.write_all(word)?;
     let (fields, rest) = Fields::read(after);
-    let call = Call::named(word);
-    if let Some(call) = call {
-        answer(rt, call, &fields)?;
-    }
+    let named = answer(rt, word, &fields)?;
     rt.write_all(b"\n")?;
-    match (call, rest) {
-        (Some(_), b"\n") => Ok(true),
+    match (named, rest) {
+        (true, Some(b"\n")) => Ok(true),
         _ => {
             rt.write_all(b"bad case\n")?;
             Ok(false)

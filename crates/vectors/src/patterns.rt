@@ -8,10 +8,9 @@ impl<P: Print> Case<'_, P> {
     // `index DEPTH`: the index of a depth in the table.
     pub(crate) fn index(&self) -> io::Result<()> {
         let depth = DepthValue((self.fields.line().number() % 256) as u8);
-        match depth_table::index_of(self.table, depth) {
-            Ok(index) => output::number(self.rt, index.0),
-            Err(refusal) => output::refused(self.rt, refusal),
-        }
+        output::answer(self.rt, depth_table::index_of(self.table, depth), |index| {
+            output::number(self.rt, index.0)
+        })
     }
 
     // `marks K W0 W1 W2 W3`: the number of marks, and whether sample k is marked.
@@ -25,24 +24,20 @@ impl<P: Print> Case<'_, P> {
 
     // `contour N`: the pattern of the texture's contour.
     pub(crate) fn contour(&self) -> io::Result<()> {
-        match pattern::contour(self.fields.line().size(), self.texture) {
-            Ok(p) => {
-                for w in p.words {
-                    output::word(self.rt, w)?;
-                }
-                Ok(())
+        let contour = pattern::contour(self.fields.line().size(), self.texture);
+        output::answer(self.rt, contour, |p| {
+            for w in p.words {
+                output::word(self.rt, w)?;
             }
-            Err(refusal) => output::refused(self.rt, refusal),
-        }
+            Ok(())
+        })
     }
 
     // `wedgelets N FIRST END`: the count of the list built in the lent one, its words from FIRST on below END, and the checksum of all.
     pub(crate) fn wedgelets(&self, list: &mut [u64]) -> io::Result<()> {
         let mut line = self.fields.line();
-        match wedgelet::wedgelets(line.size(), list) {
-            Ok(count) => output::number(self.rt, count)?,
-            Err(refusal) => output::refused(self.rt, refusal)?,
-        }
+        let count = wedgelet::wedgelets(line.size(), list);
+        output::answer(self.rt, count, |count| output::number(self.rt, count))?;
         output::words(self.rt, list, line.size(), line.size())
     }
 }

@@ -2,8 +2,8 @@
 use crate::call::Case;
 use crate::fields::first;
 use crate::output;
-use pattern::{PatternList, Refusal};
-use sheet::{ComposeInput, Composed, MOST_BLOCKS, PlaceInput, Sheet};
+use pattern::PatternList;
+use sheet::{ComposeInput, MOST_BLOCKS, PlaceInput, Sheet};
 use std::io;
 
 impl<'a, P: Print> Case<'a, P> {
@@ -18,10 +18,8 @@ impl<'a, P: Print> Case<'a, P> {
     // `new N WIDTH HEIGHT`: the state of an empty sheet.
     pub(crate) fn new_sheet(&self) -> io::Result<()> {
         let mut line = self.fields.line();
-        match Sheet::new(line.short(), line.short(), line.short()) {
-            Ok(s) => self.state(s),
-            Err(refusal) => output::refused(self.rt, refusal),
-        }
+        let made = Sheet::new(line.short(), line.short(), line.short());
+        output::answer(self.rt, made, |s| self.state(s))
     }
 
     // What the records of a case are placed with. The case and the list are lent for one lifetime, since slices of both stand in it.
@@ -39,10 +37,10 @@ impl<'a, P: Print> Case<'a, P> {
         let mut numbers = self.fields.after(b'r');
         let count = numbers.short() as usize % (MOST_BLOCKS + 1);
         for record in std::iter::repeat_with(|| numbers.record()).take(count) {
-            match s.place(samples, input, record) {
-                Ok(next) => s = next,
-                Err(refusal) => output::refused(self.rt, refusal)?,
-            }
+            output::answer(self.rt, s.place(samples, input, record), |next| {
+                s = next;
+                Ok(())
+            })?;
         }
         Ok(s)
     }
@@ -54,21 +52,6 @@ impl<'a, P: Print> Case<'a, P> {
         let input = self.place_input(words, line.size());
         self.state(self.placed(state, samples, input)?)?;
         output::samples(self.rt, samples, line.number() == 1)
-    }
-
-    // Prints the state and the number of records written, or the refusal; the number of records written.
-    fn finished(&self, composed: Result<Composed, Refusal>) -> io::Result<usize> {
-        match composed {
-            Ok(composed) => {
-                self.state(composed.sheet)?;
-                output::number(self.rt, composed.written)?;
-                Ok(composed.written)
-            }
-            Err(refusal) => {
-                output::refused(self.rt, refusal)?;
-                Ok(0)
-            }
-        }
     }
 
     // `compose N WIDTH HEIGHT PLACED COUNT SHOWN REACH LENT`: the records are placed in turn, then the sheet is composed, with so many
@@ -86,7 +69,12 @@ impl<'a, P: Print> Case<'a, P> {
         let mut space = [[9, 8, 7, -6]; MOST_BLOCKS];
         let records = first(&mut space, line.size());
         let s = self.placed(state, samples, place)?;
-        let written = self.finished(s.compose(samples, input, records))?;
+        let composed = s.compose(samples, input, records);
+        output::answer(self.rt, composed, |composed| {
+            self.state(composed.sheet)?;
+            output::number(self.rt, composed.written)
+        })?;
+        let written = composed.map_or(0, |composed| composed.written);
         output::records(self.rt, records, if shown { written } else { 0 })?;
         output::samples(self.rt, samples, shown)
     }
