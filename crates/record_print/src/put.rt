@@ -30,7 +30,7 @@ pub fn put_text(out: &mut [u8], from: Cursor, text: &[u8]) -> Cursor
     Cursor { at: next }
 }
 
-// A title line.
+// A title line; nothing where there is no room, as in `put_text`.
 pub fn put_title(out: &mut [u8], from: Cursor, title: Title) -> Cursor
     ensures { Put out.old out.new from (title_text title) result }
 {
@@ -49,7 +49,7 @@ pub fn put_number(out: &mut [u8], from: Cursor, x: u32, end: u8) -> Cursor
     put_text(out, from, field.as_slice())
 }
 
-// The line of a table value.
+// The line of a table value; nothing for a number without a numeral, as in `put_number`.
 #[tactic(auto, unfolding(record_text::specs::Line::value_text))]
 pub fn put_value_line(out: &mut [u8], from: Cursor, v: u32) -> Cursor
     ensures { Put out.old out.new from (printed_if (number_printable v) (value_text v)) result }

@@ -64,7 +64,7 @@ impl Spot {
         .cut_samples(own)
     }
 
-    // Puts a block.
+    // Puts a block. That it lies inside the samples is a clause, as at `Drawing`: they are a `&mut` slice.
     pub(crate) fn put(self, samples: &mut [u8], b: Block)
         requires { (self.y + self.n) * self.width ≤ length samples.old }
         ensures { samples.new ≡ written self.n self.width self.x self.y (rows.samples_of self.n b) samples.old }

@@ -109,6 +109,8 @@ impl Fields {
         let mut numbers = ArrayVec::new();
         let mut bars = [None; 16];
         let mut rest = bytes;
+        // A loop, since each field is read from the bytes that the one before left, and its number is the place of a bar; no index reads a
+        // slice.
         for i in 0..NUMBERS {
             let Some((b' ', after)) = rest.split_first() else {
                 break;
