@@ -55,7 +55,7 @@ module _ (C : Case) where
       q ∙ ap (λ (R : ℕ). side false R + side true R) (reach-again C.reach (length C.table - 1) k) ∙ ap (tried_at C) e
 
   -- before the first pattern, and one more
-  tried-none : 0 ≡ tried_to C 0
+  pub tried-none : 0 ≡ tried_to C 0
   unfolding sum_to
   tried-none = refl
 

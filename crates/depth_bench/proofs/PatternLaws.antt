@@ -28,12 +28,12 @@ use Rattle.depth_bench.proofs.Built.{entry-refusal}
 -- ---- the answer of each kind
 
 module _ (n : ℕ) (t : List ℕ) (size : size_ok n ≡ true) (fits : texture_ok (length t) (n * n) ≡ true) (entry : ℕ) where
-  wedgelet-answer :
+  pub wedgelet-answer :
       answer (unless (ltb entry (length (wedgelet_list n))) 6 0) (get_or (built_list n) entry 0) ≡ pattern_answer n 0 entry t
   unfolding pattern_answer pattern_refusal
   wedgelet-answer = rw (size, fits, ← entry-refusal n size entry)
 
-  contour-answer : answer (unless (eqb entry 0) 7 (unless (textured t) 21 0)) (contour_of n t) ≡ pattern_answer n 1 entry t
+  pub contour-answer : answer (unless (eqb entry 0) 7 (unless (textured t) 21 0)) (contour_of n t) ≡ pattern_answer n 1 entry t
   unfolding pattern_answer pattern_refusal
   contour-answer = rw (size, fits)
 

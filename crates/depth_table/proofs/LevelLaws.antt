@@ -28,11 +28,17 @@ unfolding clamped
 clamped-lt count i (pos k) h = omega arith
 clamped-lt count i (negsuc k) h = omega arith
 
--- the value at the saturating sum, held to the last place; b is the offset by its bits
+-- the saturating sum, held to the last place; b is the offset by its bits
+pub place_held :
+    (count i : ℕ) (off : ℤ) {b : ℤ} {sum place : ℕ} → count < 2 ^ 64 → b ≡ off → sum ≡ saturate_unsigned w64 (pos i +ℤ b)
+    → place ≡ min sum (count - 1) → place ≡ clamped count i off
+place_held count i off h o s p = rw (p, s, o) (clamped_sum count i off h)
+
+-- the value at that place
 pub value_held :
     (t : List ℕ) (i : ℕ) (off : ℤ) {b : ℤ} {sum place : ℕ} → length t < 2 ^ 64 → b ≡ off → sum ≡ saturate_unsigned w64 (pos i +ℤ b)
     → place ≡ min sum (length t - 1) → get_or t place 0 ≡ value_of t i off
-value_held t i off h o s p = rw (p, s, o) (ap (λ (k : ℕ). get_or t k 0) (clamped_sum (length t) i off h))
+value_held t i off h o s p = ap (λ (k : ℕ). get_or t k 0) (place_held (length t) i off h o s p)
 
 -- ---- where there is a value nothing is refused
 

@@ -1,6 +1,7 @@
 // Offsets, and the table value that an index and an offset give (document 01, "Predicted block").
-ghost use Rattle.std.specs.Prelude.{◌≡◌};
+ghost use Rattle.std.specs.Prelude.{◌≡◌, ◌<◌};
 ghost use Rattle.arith.specs.Checks.{refusal};
+ghost use Rattle.arith.specs.Distance.{clamped};
 ghost use Rattle.pattern.specs.Refusal.{refusal_in, told};
 ghost use Rattle.depth_table.specs.Offset.{offset_ok, offset_usable, offsets_ok, offsets_usable, offset_checks};
 ghost use Rattle.depth_table.specs.Answer.{value_answer, depth};
@@ -47,6 +48,14 @@ pub fn check_offsets(values: usize, off0: i32, off1: i32) -> Result<(), Refusal>
     check(offsets_usable(values, off0, off1), Refusal::OffsetPastTable)
 }
 
+// The place at an index plus an offset, clamped to the places of a table of so many values.
+fn clamped_place(count: usize, index: DepthIndex, off: i32) -> usize
+    requires { 0 < count }
+    ensures { result ≡ clamped count index.0 off }
+{
+    index.0.saturating_add_signed(off as isize).min(count - 1)
+}
+
 // The table value at an index plus an offset, clamped; or refusal 3 where there is no value, or 4.
 #[tactic(auto, unfolding(crate::specs::Answer::value_answer))]
 pub fn value_at(table: &[u8], index: DepthIndex, off: i32) -> Result<DepthValue, Refusal>
@@ -54,7 +63,5 @@ pub fn value_at(table: &[u8], index: DepthIndex, off: i32) -> Result<DepthValue,
 {
     check(!table.is_empty(), Refusal::Table)?;
     check(offset_ok(off), Refusal::Offset)?;
-    let last = table.len() - 1;
-    let at = index.0.saturating_add_signed(off as isize).min(last);
-    Ok(DepthValue(table[at]))
+    Ok(DepthValue(table[clamped_place(table.len(), index, off)]))
 }

@@ -110,11 +110,11 @@ four-lt a b c d p q r s = cat-lt 192 64 (cat-lt 128 64 (cat-lt 64 64 s r) q) p
 -- ---- bits of four words
 
 module _ (a b c d k : ℕ) where
-  bit-in-0 : k < 64 → test_bit (four_words a b c d) k ≡ test_bit a k
+  pub bit-in-0 : k < 64 → test_bit (four_words a b c d) k ≡ test_bit a k
   unfolding four_words
   bit-in-0 h = low_bit 64 (joined (joined d c) b) a k h
 
-  bit-in-1 : a < 2 ^ 64 → 64 ≤ k → k < 128 → test_bit (four_words a b c d) k ≡ test_bit b (k - 64)
+  pub bit-in-1 : a < 2 ^ 64 → 64 ≤ k → k < 128 → test_bit (four_words a b c d) k ≡ test_bit b (k - 64)
   unfolding four_words
   bit-in-1 p l h = high_bit 64 (joined (joined d c) b) a k p l ∙ low_bit 64 (joined d c) b (k - 64) (omega arith)
 
@@ -126,10 +126,10 @@ module _ (a b c d k : ℕ) where
       ∙ high_bit 64 (joined d c) b (k - 64) q (omega arith)
       ∙ ap (test_bit (joined d c)) e
 
-  bit-in-2 : a < 2 ^ 64 → b < 2 ^ 64 → 128 ≤ k → k < 192 → test_bit (four_words a b c d) k ≡ test_bit c (k - 128)
+  pub bit-in-2 : a < 2 ^ 64 → b < 2 ^ 64 → 128 ≤ k → k < 192 → test_bit (four_words a b c d) k ≡ test_bit c (k - 128)
   bit-in-2 p q l h = past-1 p q l ∙ low_bit 64 d c (k - 128) (omega arith)
 
-  bit-in-3 : a < 2 ^ 64 → b < 2 ^ 64 → c < 2 ^ 64 → 192 ≤ k → test_bit (four_words a b c d) k ≡ test_bit d (k - 192)
+  pub bit-in-3 : a < 2 ^ 64 → b < 2 ^ 64 → c < 2 ^ 64 → 192 ≤ k → test_bit (four_words a b c d) k ≡ test_bit d (k - 192)
   bit-in-3 p q r l =
       let e : k - 128 - 64 ≡ k - 192 = omega arith in
       past-1 p q (omega arith) ∙ high_bit 64 d c (k - 128) r (omega arith) ∙ ap (test_bit d) e
@@ -158,7 +158,7 @@ module _ (l : List ℕ) (k : ℕ) (p : get_or l 0 0 < 2 ^ 64) (q : get_or l 1 0 
   four_past s h = le-ltb (k / 64) 4 h ∙ sym (bit_past 256 (four_at l 0) k (four-lt _ _ _ _ p q r s) (omega arith))
 
 -- the count of ones, word by word
-four-ones : (a b c d : ℕ) → a < 2 ^ 64 → b < 2 ^ 64 → c < 2 ^ 64 → ones (four_words a b c d) ≡ ones d + ones c + ones b + ones a
+pub four-ones : (a b c d : ℕ) → a < 2 ^ 64 → b < 2 ^ 64 → c < 2 ^ 64 → ones (four_words a b c d) ≡ ones d + ones c + ones b + ones a
 unfolding four_words
 four-ones a b c d p q r =
     ones_cat 64 (joined (joined d c) b) a p
@@ -245,6 +245,21 @@ four_below a b c d k p q r =
     below-part (joined (joined d c) b) a k p
     ∙ ap (λ (t : Bool). t && ltb a (2 ^ k))
     (below-part (joined d c) b (k - 64) q ∙ ap (λ (t : Bool). t && ltb b (2 ^ (k - 64))) (below-part d c (k - 64 - 64) r))
+
+zero_alone : (x : ℕ) → ltb x 1 ≡ eqb x 0
+zero_alone x = sym (shifted_none x 0) ∙ ap (λ (y : ℕ). eqb y 0) (div-one x)
+
+-- up to 64 that is where the upper words are 0, and the first has no bit from k up
+pub first_below :
+    (a b c d k : ℕ) → a < 2 ^ 64 → b < 2 ^ 64 → c < 2 ^ 64 → k ≤ 64
+    → ltb (four_words a b c d) (2 ^ k) ≡ (((eqb d 0 && eqb c 0) && eqb b 0) && ltb a (2 ^ k))
+first_below a b c d k p q r h =
+    let first : k - 64 ≡ 0 = omega arith in
+    let second : k - 64 - 64 ≡ 0 = omega arith in
+    let third : k - 64 - 64 - 64 ≡ 0 = omega arith in
+    four_below a b c d k p q r
+    ∙ (λ i. ((ltb d (2 ^ third i) && ltb c (2 ^ second i)) && ltb b (2 ^ first i)) && ltb a (2 ^ k))
+    ∙ (λ i. ((zero_alone d i && zero_alone c i) && zero_alone b i) && ltb a (2 ^ k))
 
 -- four words have no bit from k up where word i has none from k - 64 * i up, and have one where a word has
 module _ (l : List ℕ) (k : ℕ) (p : get_or l 0 0 < 2 ^ 64) (q : get_or l 1 0 < 2 ^ 64) (r : get_or l 2 0 < 2 ^ 64) where
@@ -341,7 +356,7 @@ width_narrow n h = rw (le-leb n 8 h)
 pub width-wide : (n : ℕ) → 8 < n → words_of n ≡ 4
 width-wide n h = rw (lt-leb n 8 h)
 
-width-pos : (n : ℕ) → 0 < words_of n
+pub width-pos : (n : ℕ) → 0 < words_of n
 width-pos n = go (leb n 8)
   where
     go : (b : Bool) → 0 < cond b 1 4
@@ -394,14 +409,14 @@ words-end n [] w = append-nil (in_words n w)
 words-end n (a ∷ k) w = ap (λ (t : List ℕ). in_words n a ++ t) (words-end n k w) ∙ sym (append_assoc (in_words n a) (word_list n k) (in_words n w))
 
 -- for n up to 8 patterns and words are the same
-words-narrow : (n : ℕ) (k : List ℕ) → n ≤ 8 → word_list n k ≡ k
+pub words-narrow : (n : ℕ) (k : List ℕ) → n ≤ 8 → word_list n k ≡ k
 unfolding word_list in_words
 words-narrow n [] h = refl
 words-narrow n (w ∷ k) h = rw (le-leb n 8 h) (ap (λ (t : List ℕ). w ∷ t) (words-narrow n k h))
 
 -- ---- the patterns of a list of words
 
-whole-narrow : (n words : ℕ) → n ≤ 8 → whole_patterns n words ≡ words
+pub whole-narrow : (n words : ℕ) → n ≤ 8 → whole_patterns n words ≡ words
 whole-narrow n words h = rw (le-leb n 8 h) (div-one words)
 
 pub whole_wide : (n words : ℕ) → 8 < n → whole_patterns n words ≡ words / 4

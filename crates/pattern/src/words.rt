@@ -1,5 +1,5 @@
 // A pattern as four words of 64 bits, and a lent list of patterns.
-ghost use Rattle.std.specs.Prelude.{◌≡◌, ◌+◌, ◌^◌, ◌≤◌, ltb, length, get_or};
+ghost use Rattle.std.specs.Prelude.{◌≡◌, ◌+◌, ◌^◌, ◌≤◌, ◌&&◌, eqb, ltb, length, get_or};
 ghost use Rattle.std.specs.Int.Bits.{bit_and, bit_xor};
 ghost use Rattle.std.specs.Int.Count.{ones};
 ghost use Rattle.arith.specs.Bits.{test_bit};
@@ -55,10 +55,21 @@ impl Pattern {
         k / 64 < WORDS && (word >> (k % 64)) % 2 == 1
     }
 
-    // Whether the pattern has no bit from n * n up.
+    // Whether no word but the first has a bit.
+    fn first_alone(self) -> bool
+        ensures { let w = self.words in result ≡ ((eqb (get_or w 3 0) 0 && eqb (get_or w 2 0) 0) && eqb (get_or w 1 0) 0) }
+    {
+        self.words[3] == 0 && self.words[2] == 0 && self.words[1] == 0
+    }
+
+    // Whether the pattern has no bit from n * n up. Up to 8 by 8 the first word is judged apart: the others of a list's pattern are then
+    // known to be 0, and the compiler leaves them out.
     pub fn fits(self, n: usize) -> bool
         ensures { result ≡ word_ok n (pattern_number self) }
     {
+        if n <= 8 {
+            return self.first_alone() && word_below(self.words[0], n * n);
+        }
         GREATEST_SIZE <= n
             || self.words.iter().enumerate().all(|(i, &word)| word_below(
                 word,

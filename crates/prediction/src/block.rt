@@ -14,14 +14,21 @@ ghost use Rattle.prediction.specs.Answer.{predict_answer, predict_block, predict
 use crate::Input;
 use crate::sides::Neighbours;
 use depth_table::{DepthValue, check_offsets, is_table, nearest_index, value_at};
-use pattern::{Pattern, Refusal, check, size_ok};
+use pattern::{Pattern, Refusal, WORDS, check, size_ok};
 
-// Each sample takes v1 where it is marked, v0 where not.
+// Each sample takes v1 where it is marked, v0 where not. The marks are taken off a word one by one, and the next word is read for every
+// 64 samples. The values are looked up, as a branch on the mark is guessed wrong where marks alternate.
 fn paint(p: Pattern, v1: u8, v0: u8, block: &mut [u8])
     ensures { block.new ≡ list_of (λ k. cond (test_bit (pattern_number p) k) v1 v0) (length block.old) }
 {
+    let values = [v0, v1];
+    let mut word = 0;
     for (k, sample) in block.iter_mut().enumerate() {
-        *sample = if p.mark_at(k) { v1 } else { v0 };
+        if k % 64 == 0 {
+            word = if k / 64 < WORDS { p.words[k / 64] } else { 0 };
+        }
+        *sample = values[(word % 2) as usize];
+        word /= 2;
     }
 }
 

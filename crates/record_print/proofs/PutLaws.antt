@@ -7,6 +7,7 @@ use native.Mathlib.Omega.{arith}
 use lib.IntN.{ℤ, pos, negsuc, nat_abs}
 use lib.ListN.{length, take, drop}
 use lib.Seq.{sets-eq, take_at}
+use lib.Dec.{leb}
 use borrow.Author.Tests.{le-leb, lt-ltb}
 use Rattle.record_print.specs.declared.cursor.Cursor.{Cursor}
 use Rattle.record_text.specs.declared.fields.SizeFields.{SizeFields}
@@ -49,6 +50,14 @@ written-whole {old} {new} {text} {next} h w =
 pub put-printable :
     {b : Bool} {old new text : List ℕ} {from next : Cursor} → b ≡ true → Put old new from text next → Put old new from (printed_if b text) next
 put-printable e w = rw e w
+
+-- and nothing is put where there is no room for it
+pub put-none :
+    {b : Bool} {old : List ℕ} {from : Cursor} (text : List ℕ) (n : ℕ) → b ≡ true → n ≡ length text → leb (from.at + n) (length old) ≡ false
+    → Put old old from (printed_if b text) from
+put-none {old = old} {from} text n e q h =
+    let none : leb (from.at + length text) (length old) ≡ false = ap (λ (k : ℕ). leb (from.at + k) (length old)) (sym q) ∙ h in
+    put-printable e (record { lent = rw none refl; place = rw none refl })
 
 -- the same of the text as it was made
 pub put-made :

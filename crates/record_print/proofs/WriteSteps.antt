@@ -4,7 +4,7 @@ use mathlib.Core.Path.{◌≡◌, refl, sym, ◌∙◌, ap, subst}
 use mathlib.Core.List.{List, [], ◌∷◌, ◌++◌, append_assoc}
 use native.Mathlib.Omega.{arith}
 use native.Mathlib.Nat.{add-zero, add-suc, suc-add}
-use lib.ListN.{length, set, take, drop, length-append}
+use lib.ListN.{length, set, take, drop, length-append, take-append-drop}
 use lib.Seq.{sets, sets-eq, length-sets}
 use borrow.Rule.Slice.PartMut.{put_mid, Post-is}
 use Rattle.record_print.specs.Put.{Written}
@@ -47,3 +47,14 @@ written_copied old new text at e h = record {
       (sym (sets-eq text old at h ∙ append_assoc (take at old) text (drop (at + length text) old)));
   place = refl;
 }
+
+-- ---- a text written from its end, where it stands: up to its place nothing is changed
+pub written_there :
+    (old out text : List ℕ) (at to : ℕ) → take at out ≡ take at old → drop at out ≡ text ++ drop to old → at + length text ≡ to → to ≤ length old
+    → Written old out at text to
+written_there old out text at to before here e h =
+    let parts : take at out ++ drop at out ≡ take at old ++ (text ++ drop (at + length text) old) = rw (before, here, e) refl in
+    record {
+      lent = sym (take-append-drop at out) ∙ parts ∙ sym (sets-eq text old at (omega (arith, e, h)) ∙ append_assoc (take at old) text (drop (at + length text) old));
+      place = sym e;
+    }

@@ -6,12 +6,11 @@ ghost use Rattle.record_text.specs.Told.{title_text};
 ghost use Rattle.record_print.specs.Put.{Put, printed_if, number_printable};
 
 use crate::cursor::Cursor;
-use crate::write::{NUMERAL_END, push_field};
-use arrayvec::ArrayVec;
+use crate::write::{NUMERAL_END, field_length, write_field};
 use record_text::Title;
 
 // Whether so many bytes more go into a slice of a length, from a place on.
-fn has_room(length: usize, at: usize, more: usize) -> bool
+pub(crate) fn has_room(length: usize, at: usize, more: usize) -> bool
     ensures { result ≡ leb (at + more) length }
 {
     length.checked_sub(at).is_some_and(|room| more <= room)
@@ -44,9 +43,14 @@ pub fn put_number(out: &mut [u8], from: Cursor, x: u32, end: u8) -> Cursor
     if x >= NUMERAL_END {
         return from;
     }
-    let mut field = ArrayVec::new();
-    push_field(&mut field, i64::from(x), end);
-    put_text(out, from, field.as_slice())
+    let z = i64::from(x);
+    let length = field_length(z);
+    if !has_room(out.len(), from.at, length) {
+        return from;
+    }
+    let next = from.at + length;
+    write_field(out, next, z, end);
+    Cursor { at: next }
 }
 
 // The line of a table value; nothing for a number without a numeral, as in `put_number`.

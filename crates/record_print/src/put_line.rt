@@ -1,14 +1,13 @@
-// Writing a line of numbers: it is made apart, and then put where there is room. `SizeFields` and `Record` have no `Display`: their lines
-// are promised byte by byte, and a `Display` promises nothing of its bytes.
-ghost use Rattle.std.specs.Prelude.{◌≡◌, length};
+// Writing a line of numbers, from its last field to its first, where there is room. `SizeFields` and `Record` have no `Display`: their
+// lines are promised byte by byte, and a `Display` promises nothing of its bytes.
+ghost use Rattle.std.specs.Prelude.{◌≡◌, true, length};
 ghost use Rattle.std.specs.List.{list_all};
 ghost use Rattle.record_text.specs.Line.{line_text, size_text, record_text};
 ghost use Rattle.record_print.specs.Put.{Put, printed_if, signed_printable, line_printable, size_printable, record_printable};
 
 use crate::cursor::Cursor;
-use crate::put::put_text;
-use crate::write::{NUMERAL_END, push_field};
-use arrayvec::ArrayVec;
+use crate::put::has_room;
+use crate::write::{NUMERAL_END, field_length, write_field};
 use record::Record;
 use record_text::{SizeFields, end_byte};
 
@@ -21,6 +20,15 @@ fn all_printable(numbers: &[i64]) -> bool
         .all(|z| z.unsigned_abs() < u64::from(NUMERAL_END))
 }
 
+// How long a line of four numbers is.
+fn line_length(numbers: &[i64; 4]) -> usize
+    requires { (length numbers.now ≡ 4) × (list_all signed_printable numbers.now ≡ true) }
+    ensures { result ≡ length (line_text numbers.now) }
+{
+    let [a, b, c, d] = *numbers;
+    field_length(a) + field_length(b) + field_length(c) + field_length(d)
+}
+
 // A line of numbers; nothing where one has no numeral, since it is promised that this cannot fail.
 fn put_line(out: &mut [u8], from: Cursor, numbers: [i64; 4]) -> Cursor
     requires { length numbers ≡ 4 }
@@ -29,11 +37,16 @@ fn put_line(out: &mut [u8], from: Cursor, numbers: [i64; 4]) -> Cursor
     if !all_printable(&numbers) {
         return from;
     }
-    let mut line = ArrayVec::new();
-    for (i, &z) in numbers.iter().enumerate() {
-        push_field(&mut line, z, end_byte(i == 3));
+    let length = line_length(&numbers);
+    if !has_room(out.len(), from.at, length) {
+        return from;
     }
-    put_text(out, from, line.as_slice())
+    let next = from.at + length;
+    let mut at = next;
+    for i in (0..4).rev() {
+        at = write_field(out, at, numbers[i], end_byte(i == 3));
+    }
+    Cursor { at: next }
 }
 
 // The line of the size; nothing where a number has no numeral, as in `put_line`.

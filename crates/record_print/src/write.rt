@@ -1,25 +1,55 @@
-// Making the fields of a line, each a number and the byte after it.
-ghost use Rattle.std.specs.Prelude.{◌≡◌, ◌+◌, ◌≤◌, ◌<◌, ◌++◌, nat_abs, length};
-ghost use Rattle.record_text.specs.Numeral.{numeral_end};
+// Writing the fields of a line where they stand, each a number and the byte after it.
+ghost use Rattle.std.specs.Prelude.{◌≡◌, ℕ, suc, ◌+◌, ◌≤◌, ◌<◌, ◌++◌, nat_abs, length, take, drop};
+ghost use Rattle.record_text.specs.Numeral.{further_digits, numeral_end};
 ghost use Rattle.record_text.specs.Field.{signed_text};
 
-use arrayvec::ArrayVec;
-use itoa::Buffer;
+use itoa::write_digits;
 
 // Numbers from here up have no numeral.
 pub(crate) const NUMERAL_END: u32 = 100_000;
 
-// The room for a line of four fields of at most seven bytes.
-pub(crate) const LINE_ROOM: usize = 32;
-
-// Appends a signed number and the byte `end`, at most seven bytes.
-pub(crate) fn push_field(line: &mut ArrayVec<u8, LINE_ROOM>, z: i64, end: u8)
-    requires { (nat_abs z < numeral_end) × (length line.old.items + 7 ≤ 32) }
-    ensures text { line.new.items ≡ line.old.items ++ signed_text end z }
-    ensures short { length line.new.items ≤ length line.old.items + 7 }
+// How many digits the numeral of a number has.
+fn digit_count(x: u64) -> usize
+    ensures { result ≡ suc (further_digits 4 x) }
 {
-    let mut buffer = Buffer::new();
-    let numeral = buffer.format(z).as_bytes();
-    line.try_extend_from_slice(numeral).unwrap();
-    line.push(end);
+    if x < 10 {
+        return 1;
+    }
+    if x < 100 {
+        return 2;
+    }
+    if x < 1000 {
+        return 3;
+    }
+    if x < 10000 {
+        return 4;
+    }
+    5
+}
+
+// How many bytes a signed number and the byte after it are, at most seven.
+pub(crate) fn field_length(z: i64) -> usize
+    ensures is { (end : ℕ) → result ≡ length (signed_text end z) }
+    ensures short { result ≤ 7 }
+{
+    let digits = digit_count(z.unsigned_abs());
+    if z >= 0 { digits + 1 } else { digits + 2 }
+}
+
+// Writes a signed number and the byte `end` before the place `to`, and answers where they begin. The digits are written where they stand:
+// those of a buffer of their own would be read again before the writes to it are done.
+pub(crate) fn write_field(out: &mut [u8], to: usize, z: i64, end: u8) -> usize
+    requires { (nat_abs z < numeral_end) × (length (signed_text end z) ≤ to) × (to ≤ length out.old) }
+    ensures start { result + length (signed_text end z) ≡ to }
+    ensures written { drop result out.new ≡ signed_text end z ++ drop to out.old }
+    ensures before { take result out.new ≡ take result out.old }
+{
+    let last = to - 1;
+    out[last] = end;
+    let at = write_digits(z.unsigned_abs(), out, last);
+    if z >= 0 {
+        return at;
+    }
+    out[at - 1] = b'-';
+    at - 1
 }

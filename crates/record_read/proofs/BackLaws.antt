@@ -91,7 +91,7 @@ pub begun_line : (f : Front) (k : ℕ) → k ≡ length (table_of f) → ◌≡�
 begun_line f k e = rw e refl
 
 module _ (A : Aids) (f : Front) (sound : FrontSound (length A.texture) f) where
-  values-few : length (table_of f) ≤ most_values
+  pub values-few : length (table_of f) ≤ most_values
   values-few = (size_small (length A.texture) (front_size f) sound.size).values
 
   pub area-few : area f.sheet ≤ most_samples

@@ -20,11 +20,11 @@ pub head_few : (texture : ℕ) (s : List ℕ) (h : Head) (t : List ℕ) → read
 head_few texture s h t e = (size_small texture (head_fields h) (head-sound texture s (head_fields h) t (sym e))).values
 
 -- the title after the values
-title-bad : {A : Type 0} (j : ℕ) (a : A) {n k : ℕ} (p : Parsed (Unit {0})) → refused_at n k ≡ line j p no_meaning read → refused_at n k ≡ line j p no_meaning (λ _ s. read a s)
+pub title-bad : {A : Type 0} (j : ℕ) (a : A) {n k : ℕ} (p : Parsed (Unit {0})) → refused_at n k ≡ line j p no_meaning read → refused_at n k ≡ line j p no_meaning (λ _ s. read a s)
 title-bad j a bad_form e = cc
 title-bad j a (found _ t) e = refused-read e
 
-title-read : {A : Type 0} (j : ℕ) (a : A) {t : List ℕ} (p : Parsed (Unit {0})) → read tt t ≡ line j p no_meaning read → read a t ≡ line j p no_meaning (λ _ s. read a s)
+pub title-read : {A : Type 0} (j : ℕ) (a : A) {t : List ℕ} (p : Parsed (Unit {0})) → read tt t ≡ line j p no_meaning read → read a t ≡ line j p no_meaning (λ _ s. read a s)
 title-read j a bad_form e = refused-read (sym e)
 title-read j a (found _ t) e = cc
 

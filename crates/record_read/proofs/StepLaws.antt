@@ -102,7 +102,7 @@ placed-more S M s l f {t} {v} {i} c e d =
 -- ---- the loop
 
 -- a sheet has at most 1,024 blocks
-few-blocks : (S : Sheet) → Open S → blocks_of S ≤ most_blocks
+pub few-blocks : (S : Sheet) → Open S → blocks_of S ≤ most_blocks
 few-blocks S o = records-few S.n S.width S.height o.low o.narrow o.short
 
 reading-is : (q : Reading) {k : ℕ} {u : Sheet} → q.line ≡ k → q.sheet ≡ u → q ≡ record { rest = q.rest; line = k; sheet = u }

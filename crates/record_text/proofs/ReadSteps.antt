@@ -49,25 +49,25 @@ module _ {A : Type 0} (b : ℕ) (x : Parsed A) where
 
 module _ (e a b : ℕ) (s : List ℕ) where
   -- the byte that ends them
-  more-stop : (k : ℕ) → b ≡ e → more_digits e k a (b ∷ s) ≡ found a s
+  pub more-stop : (k : ℕ) → b ≡ e → more_digits e k a (b ∷ s) ≡ found a s
   unfolding more_digits
   more-stop zero h = rw (eq-eqb b e h)
   more-stop (suc k) h = rw (eq-eqb b e h)
 
   -- a byte more where no digit may follow
-  more-full : (k : ℕ) → (b ≡ e → ⊥) → k ≡ 0 → more_digits e k a (b ∷ s) ≡ bad_form
+  pub more-full : (k : ℕ) → (b ≡ e → ⊥) → k ≡ 0 → more_digits e k a (b ∷ s) ≡ bad_form
   unfolding more_digits
   more-full zero h z = rw (ne_eqb b e h)
   more-full (suc k) h z = absurd (omega arith)
 
   -- a byte that is no digit
-  more-none : (k : ℕ) → (b ≡ e → ⊥) → (digit_in b < 10 → ⊥) → more_digits e k a (b ∷ s) ≡ bad_form
+  pub more-none : (k : ℕ) → (b ≡ e → ⊥) → (digit_in b < 10 → ⊥) → more_digits e k a (b ∷ s) ≡ bad_form
   unfolding more_digits
   more-none zero h q = rw (ne_eqb b e h)
   more-none (suc k) h q = rw (ne_eqb b e h) (digit_none b _ q)
 
   -- a digit more
-  more-next : (k : ℕ) → (b ≡ e → ⊥) → digit_in b < 10 → more_digits e (suc k) a (b ∷ s) ≡ more_digits e k (a * 10 + digit_in b) s
+  pub more-next : (k : ℕ) → (b ≡ e → ⊥) → digit_in b < 10 → more_digits e (suc k) a (b ∷ s) ≡ more_digits e k (a * 10 + digit_in b) s
   unfolding more_digits
   more-next k h q =
       let w = digit_some b (more_digits e k (a * 10 + (b - 48)) s) q in

@@ -34,7 +34,7 @@ neither-of false b e = (refl, e)
 
 module _ (n : ℕ) (old new : List ℕ) (enough : most_words ≤ length old) (after : new ≡ list_after n old) where
   -- `wedgelets` counted the patterns
-  list-built : (count : ℕ) → given count ≡ list_answer n old → Listing n new count
+  pub list-built : (count : ℕ) → given count ≡ list_answer n old → Listing n new count
   unfolding list_answer list_after aids_for
   list-built count e =
       let L = wedgelet_list n in
@@ -50,7 +50,7 @@ module _ (n : ℕ) (old new : List ℕ) (enough : most_words ≤ length old) (af
       }
 
   -- or refused, which is the size's fault
-  list-refused : (number : ℕ) → refused number ≡ list_answer n old → no_aids ≡ aids_for n
+  pub list-refused : (number : ℕ) → refused number ≡ list_answer n old → no_aids ≡ aids_for n
   unfolding list_answer list_refusal aids_for
   list-refused number e =
       let g = refused-means (list_refusal n (length old)) number (length (wedgelet_list n)) (sym e) in

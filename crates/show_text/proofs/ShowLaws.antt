@@ -33,12 +33,13 @@ use Rattle.show_text.proofs.SampleLaws.{file-fits, text-short}
 -- ---- what reading answers and leaves
 
 -- a refused line
-back-refused : (x : Lined File) (e : LineRefusal) → back_told (Err e) ≡ file_back x → x ≡ refused_at (number_of e.refusal) e.line
+pub back-refused : (x : Lined File) (e : LineRefusal) → back_told (Err e) ≡ file_back x → x ≡ refused_at (number_of e.refusal) e.line
 back-refused (refused_at n k) e h = rw (ap (λ (b : Back). b.refusal) h, ap (λ (b : Back). b.line) h)
 back-refused (read F s) e h = absurd (number-some e.refusal (ap (λ (b : Back). b.refusal) h))
 
 -- a sheet, with the samples that reading left
 pub record SheetBack (A : Aids) (x : Lined File) (S : Sheet) (samples : List ℕ) : Type 0 where
+  pub some : 0 < S.width
   pub width : S.width ≤ 128
   pub height : S.height ≤ 128
   pub few : S.width * S.height ≤ most_samples
@@ -75,6 +76,7 @@ back_read A s r samples old e h d = go (read_with A s) refl e d
         let S : r.sheet ≡ finished (empty_sheet F) = ap (λ (c : Back). c.sheet) e in
         rw (S, d)
         (record {
+          some = f.some;
           width = f.width;
           height = f.height;
           few = f.samples;
@@ -87,7 +89,7 @@ abbrev pub lent : Lent
 lent = lent_of (replicate most_samples 0) (replicate most_blocks (replicate 4 (pos 0)))
 
 module _ (A : Aids) (s : List ℕ) where
-  lent-read : reading A lent s ≡ read_with A s
+  pub lent-read : reading A lent s ≡ read_with A s
   lent-read = rw (length-replicate {A = ℕ} most_samples 0, length-replicate {A = List ℤ} most_blocks (replicate 4 (pos 0)))
 
   -- what was answered where a line is refused, and the line can be printed

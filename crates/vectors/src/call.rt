@@ -16,26 +16,26 @@ pub(crate) struct Case<'a, P: Print> {
 }
 
 impl<'a, P: Print> Case<'a, P> {
-    // Makes the call that a word names, and prints its answer; whether it names one. A match, since the calls are lent different slices,
-    // and a table of closures would take a function that hands out function pointers, which the gate refuses. An enum of the calls would
-    // be made by a second such match.
+    // Makes the call whose word has these letters first and third, and prints its answer; whether there is one. A match, since the calls
+    // are lent different slices, and a table of closures would take a function that hands out function pointers, which the gate refuses.
+    // An enum of the calls would be made by a second such match.
     pub(crate) fn answer(
         &'a self,
-        word: &[u8],
+        letters: &[u8],
         list: &'a mut [u64],
         samples: &mut [u8],
     ) -> io::Result<bool> {
-        match word {
-            b"index" => self.index()?,
-            b"marks" => self.marks()?,
-            b"contour" => self.contour()?,
-            b"wedgelets" => self.wedgelets(list)?,
-            b"sides" => self.sides()?,
-            b"predict" => self.predict(samples)?,
-            b"choose" => self.choose(list)?,
-            b"new" => self.new_sheet()?,
-            b"place" => self.place(list, samples)?,
-            b"compose" => self.compose(list, samples)?,
+        match letters {
+            b"id" => self.index()?,
+            b"mr" => self.marks()?,
+            b"cn" => self.contour()?,
+            b"wd" => self.wedgelets(list)?,
+            b"sd" => self.sides()?,
+            b"pe" => self.predict(samples)?,
+            b"co" => self.choose(list)?,
+            b"nw" => self.new_sheet()?,
+            b"pa" => self.place(list, samples)?,
+            b"cm" => self.compose(list, samples)?,
             _ => return Ok(false),
         }
         Ok(true)

@@ -1,8 +1,7 @@
 // The fields of a case: the numbers of its line, and the slices that they give. What is missing in a line is read as 0 or as an empty
-// slice.
+// slice; a list that is missing has as many words, all 0, as stand before its line's last number, that number with them.
 use crate::reader;
 use crate::reader::Field;
-use arrayvec::ArrayVec;
 use pattern::Pattern;
 use record::Record;
 use sheet::Sheet;
@@ -10,24 +9,43 @@ use sheet::Sheet;
 // As many numbers and bars of a line are read.
 const NUMBERS: usize = 4080;
 
+// As many bars are kept, by the last four bits of their letters.
+const BARS: usize = 16;
+
+// As many numbers are read where a slice asks for more: then the same come again.
+const FIELDS: usize = NUMBERS + BARS;
+
 // The numbers of a line, 0 at a bar, and the place after the bar of each letter, in an array by the letter's last four bits, in which
-// l, n, o, r, s, t and x differ: a map of std is on the heap, which the project does not use.
+// l, n, o, r, s, t and x differ: a map of std is on the heap, which the project does not use. The first place is that after the last
+// number. An array that is filled where it stands: an `ArrayVec` of this size is cleared and copied some five times a line.
 #[derive(Drop)]
 pub(crate) struct Fields {
-    numbers: ArrayVec<u64, NUMBERS>,
-    bars: [Option<usize>; 16],
+    numbers: [u64; NUMBERS],
+    bars: [Option<usize>; BARS],
 }
 
 // Numbers of a line, read one after the other.
 #[derive(Drop)]
 pub(crate) struct Numbers<'a> {
-    left: std::slice::Iter<'a, u64>,
+    fields: &'a Fields,
+    next: usize,
 }
 
 impl Numbers<'_> {
     // The next number. Where the line has no more it is 0, as outside/README.md says of all that is missing at a line's end.
     pub(crate) fn number(&mut self) -> u64 {
-        self.left.next().copied().unwrap_or(0)
+        let number = self.fields.number(self.next);
+        self.next = self.next.saturating_add(1);
+        number
+    }
+
+    // Fills a slice by what is made of each number from the next one on: of FIELDS numbers, then of the same again.
+    fn fill<T: Drop, F: Fn(u64) -> T>(&self, out: &mut [T], make: F)
+        requires { F.IsAlwaysCallable make }
+    {
+        for (i, item) in out.iter_mut().enumerate() {
+            *item = make(self.fields.number(self.next.saturating_add(i % FIELDS)));
+        }
     }
 
     // The next number as a length or a place.
@@ -104,46 +122,61 @@ fn climb(start: u64, step: u64, out: &mut [u8]) {
 }
 
 impl Fields {
-    // The fields that come first, one space before each, and the bytes after them; none where a space has no field after it.
-    pub(crate) fn read(bytes: &[u8]) -> (Fields, Option<&[u8]>) {
-        let mut numbers = ArrayVec::new();
-        let mut bars = [None; 16];
+    // No fields yet.
+    pub(crate) fn new() -> Fields {
+        Fields {
+            numbers: [0; NUMBERS],
+            bars: [None; BARS],
+        }
+    }
+
+    // Reads the fields that come first, one space before each, and gives the bytes after them; none where a space has no field after it.
+    pub(crate) fn read<'a>(&mut self, bytes: &'a [u8]) -> Option<&'a [u8]> {
         let mut rest = bytes;
-        // A loop, since each field is read from the bytes that the one before left, and its number is the place of a bar; no index reads a
-        // slice.
+        // A loop, since each field is read from the bytes that the one before left, and its number is the place of a bar.
         for i in 0..NUMBERS {
             let Some((b' ', after)) = rest.split_first() else {
                 break;
             };
-            let Some((field, after)) = reader::read_field(after) else {
-                return (Fields { numbers, bars }, None);
+            let (field, after) = reader::read_field(after)?;
+            let (number, letter) = match field {
+                Field::Number(value) => (value, 0),
+                Field::Bar(letter) => (0, letter),
             };
-            let number = match field {
-                Field::Number(value) => value,
-                Field::Bar(letter) => {
-                    bars[usize::from(letter % 16)] = Some(i + 1);
-                    0
-                }
-            };
-            numbers.push(number);
+            self.numbers[i] = number;
+            self.bars[usize::from(letter) % BARS] = Some(i + 1);
             rest = after;
         }
-        (Fields { numbers, bars }, Some(rest))
+        Some(rest)
+    }
+
+    // Number k of the line, 0 where it has no such number; past NUMBERS the places after its bars are read as numbers.
+    fn number(&self, k: usize) -> u64 {
+        match k.checked_sub(NUMBERS) {
+            None => self.numbers.get(k).copied().unwrap_or(0),
+            Some(bar) => self
+                .bars
+                .get(bar)
+                .copied()
+                .flatten()
+                .map_or(0, |place| place as u64),
+        }
     }
 
     // The numbers of the line.
     pub(crate) fn line(&self) -> Numbers {
         Numbers {
-            left: self.numbers.iter(),
+            fields: self,
+            next: 0,
         }
     }
 
-    // The numbers after the bar with a letter.
+    // The numbers after the bar with a letter; where there is none, those from the last place of the numbers on.
     pub(crate) fn after(&self, letter: u8) -> Numbers {
-        let place = self.bars[usize::from(letter % 16)];
-        let left = place.and_then(|place| self.numbers.get(place..));
+        let place = self.bars[usize::from(letter) % BARS];
         Numbers {
-            left: left.unwrap_or(&[]).iter(),
+            fields: self,
+            next: place.unwrap_or(NUMBERS - 1),
         }
     }
 
@@ -154,7 +187,7 @@ impl Fields {
         let mut numbers = self.after(letter);
         let made = first(out, numbers.size());
         match numbers.number() {
-            0 => made.fill_with(|| (numbers.number() % 256) as u8),
+            0 => numbers.fill(made, |number| (number % 256) as u8),
             1 => randomize(numbers.number(), made),
             _ => climb(numbers.number(), numbers.number(), made),
         }
@@ -168,7 +201,7 @@ impl Fields {
         let _ = wedgelet::wedgelets(numbers.size(), out);
         let count = numbers.size();
         let given = numbers.size();
-        first(out, given).fill_with(|| numbers.number());
+        numbers.fill(first(out, given), |word| word);
         first(out, count)
     }
 }

@@ -1,5 +1,6 @@
 // Reads cases from standard input, one a line, makes the call that each names, and prints a line with its answer. outside/README.md has
-// the form of the cases and of the answers. A line of another form ends the program with the line `bad case`.
+// the form of the cases and of the answers. A line of another form ends the program with the line `bad case`, and a byte 0 in the place of
+// a line ends it.
 #![tactic(auto)]
 
 mod blocks;
@@ -26,8 +27,8 @@ const NEIGHBOURS: usize = pattern::NEIGHBOURS + 1;
 // Some values more than the greatest table has.
 const VALUES: usize = 300;
 
-// Makes the slices of a case, and the call that a word names, and prints its answer; whether the word names a call.
-fn answer(rt: &impl Print, word: &[u8], fields: &Fields) -> io::Result<bool> {
+// Makes the slices of a case, and the call that two letters name, and prints its answer; whether they name a call.
+fn answer(rt: &impl Print, letters: &[u8], fields: &Fields) -> io::Result<bool> {
     let mut words = [0u64; LIST_WORDS];
     let mut block = [0u8; SAMPLES];
     let mut neighbours = [0u8; NEIGHBOURS];
@@ -44,31 +45,40 @@ fn answer(rt: &impl Print, word: &[u8], fields: &Fields) -> io::Result<bool> {
         texture: fields.samples(b'x', &mut textures),
         original: fields.samples(b'o', &mut originals),
     };
-    case.answer(word, list, samples)
+    case.answer(letters, list, samples)
 }
 
-// Answers the case of a line, which ends in a line end; whether it is a case.
-fn case(rt: &impl Print, line: &[u8]) -> io::Result<bool> {
-    let (word, after) = reader::split_digits(line, 36);
+// Answers the case that comes first, which ends in a line end, and gives the text after it; none where it is no case. The first and the
+// third byte name its call.
+fn case<'a>(rt: &impl Print, text: &'a [u8]) -> io::Result<Option<&'a [u8]>> {
+    let letters = [0, 2].map(|k| text.get(k).copied().unwrap_or(0));
+    let (word, after) = reader::split_digits(text, 36);
+    let mut fields = Fields::new();
+    let rest = fields.read(after);
     rt.write_all(word)?;
-    let (fields, rest) = Fields::read(after);
-    let named = answer(rt, word, &fields)?;
+    let named = answer(rt, &letters, &fields)?;
     rt.write_all(b"\n")?;
-    match (named, rest) {
-        (true, Some(b"\n")) => Ok(true),
+    match rest.and_then(|rest| rest.strip_prefix(b"\n")) {
+        Some(next) if named => Ok(Some(next)),
         _ => {
             rt.write_all(b"bad case\n")?;
-            Ok(false)
+            Ok(None)
         }
     }
 }
 
-// Answers the cases of a text, one a line, as far as the first line that is none.
+// Answers the cases of a text, one after the other, as far as the first that is none, or a byte 0 in its place. Each has a byte at least,
+// so there are no more of them than bytes.
 fn cases(rt: &impl Print, text: &[u8]) -> io::Result<()> {
-    for line in text.split_inclusive(|b| *b == b'\n') {
-        if !case(rt, line)? {
+    let mut rest = text;
+    for _ in 0..text.len() {
+        if rest.first().is_none_or(|b| *b == 0) {
             break;
         }
+        let Some(next) = case(rt, rest)? else {
+            break;
+        };
+        rest = next;
     }
     Ok(())
 }

@@ -12,10 +12,10 @@ pub(crate) enum Field {
     Bar(u8),
 }
 
-// Reads the text until the array is full or the input ends; the bytes read. A loop, since std fills a slice only where the input has as
-// many bytes. `show` and `compose_bench` have such a loop too: a shared one would be a public function of a library, and what a reader
-// gives has no definition of which bytes, that a contract could state. The array is lent as one, since the prover runs out of stack where
-// an array of this size is lent as a slice.
+// Reads the text until the array is full or the input ends, and gives the whole array, in which no byte past the input is changed. A loop,
+// since std fills a slice only where the input has as many bytes. `show` and `compose_bench` have such a loop too: a shared one would be a
+// public function of a library, and what a reader gives has no definition of which bytes, that a contract could state. The array is lent
+// as one, since the prover runs out of stack where an array of this size is lent as a slice.
 pub(crate) fn read_text<'a>(
     input: &mut impl Read,
     text: &'a mut [u8; TEXT],
@@ -28,7 +28,7 @@ pub(crate) fn read_text<'a>(
         }
         done += read;
     }
-    Ok(&text[..done])
+    Ok(&text[..])
 }
 
 // The value of a digit in base 36; none for a byte that is none. `char::to_digit` takes capitals too, which the cases do not.
@@ -78,12 +78,15 @@ fn number(bytes: &[u8]) -> Option<(u64, &[u8])> {
     }
 }
 
-// What comes after a space, a bar and its letter or a number, and the bytes after it; none where it is neither.
+// What comes after a space, a bar and its letter or a number, and the bytes after it; none where it is neither. A letter is any byte, 0
+// past the text.
 pub(crate) fn read_field(bytes: &[u8]) -> Option<(Field, &[u8])> {
     let (first, after) = bytes.split_first()?;
     if *first == b'|' {
-        let (letter, rest) = after.split_first()?;
-        return Some((Field::Bar(*letter), rest));
+        return Some(match after.split_first() {
+            Some((letter, rest)) => (Field::Bar(*letter), rest),
+            None => (Field::Bar(0), after),
+        });
     }
     let (value, rest) = number(bytes)?;
     Some((Field::Number(value), rest))

@@ -1,24 +1,43 @@
--- `put_line` meets its contract: the line is made apart, field by field, and then put.
+-- `put_line` meets its contract: where there is room, the line is written from its last field to its first.
+use Rattle.std.specs.Prelude.{◌+◌, ◌-◌, ◌<◌, ◌≤◌, length}
+use mathlib.Core.Path.{◌≡◌, sym, ◌∙◌}
 use native.Mathlib.Omega.{arith}
-use mathlib.Core.Path.{sym, ◌∙◌}
-use Rattle.record_print.proofs.LineSteps.{begun-none, begun-room, begun-more, begun-all}
-use Rattle.record_print.proofs.PutLaws.{put-made}
+use borrow.Author.Tests.{leb-true}
+use Rattle.record_text.specs.Line.{line_text}
+use Rattle.record_print.proofs.LineSteps.{ended-before, ended-room, ended-more, ended-all}
+use Rattle.record_print.proofs.PutLaws.{put-printable, put-room}
 use Rattle.record_print.proofs.put_line.put_line.Goals as goal
 
-pub loop-i-init : goal.loop-i-init
-loop-i-init c = begun-none c.args.numbers c.new-line.ensures
-
-pub push_field-requires : goal.push_field-requires
-push_field-requires c =
+pub write_field-at-requires : goal.write_field-at-requires
+write_field-at-requires c =
+    let a = c.args in
+    let i = c.loop-i.i in
     let printable = sym c.all_printable.ensures ∙ c.if-not-all_printable.false in
-    begun-room c.args.numbers c.requires printable c.loop-i.invariant c.loop-i-test.true
+    let here : i - 1 < 4 = omega (arith, c.loop-i.auto.i, c.loop-i-test.true) in
+    let before = ended-before i c.loop-i-test.true c.loop-i.invariant in
+    let end = a.from.at + c.line_length-length.result in
+    let room : end ≤ length a.out.now = leb-true _ _ (sym c.has_room.ensures ∙ c.if-not-has_room.false) in
+    let enough : length (line_text a.numbers) ≤ end = omega (arith, c.line_length-length.ensures) in
+    ended-room a.out.now end a.numbers c.requires printable (i - 1) c.end_byte.result _ _ before here c.end_byte.ensures enough room
 
 pub loop-i-preserved : goal.loop-i-preserved
 loop-i-preserved c =
+    let a = c.args in
+    let i = c.loop-i.i in
     let printable = sym c.all_printable.ensures ∙ c.if-not-all_printable.false in
-    begun-more c.args.numbers c.requires printable c.loop-i.invariant c.loop-i-test.true c.end_byte.ensures c.push_field.ensures.text c.push_field.ensures.short
+    let here : i - 1 < 4 = omega (arith, c.loop-i.auto.i, c.loop-i-test.true) in
+    let before = ended-before i c.loop-i-test.true c.loop-i.invariant in
+    let end = a.from.at + c.line_length-length.result in
+    let w = c.write_field-at.ensures in
+    ended-more a.out.now end a.numbers c.requires printable (i - 1) c.end_byte.result _ _ before here c.end_byte.ensures _ _
+    c.write_field-at.auto.out w.start w.written w.before
 
 pub returns : goal.returns
 returns c =
+    let a = c.args in
     let printable = sym c.all_printable.ensures ∙ c.if-not-all_printable.false in
-    put-made printable (c.as_slice.ensures.value ∙ begun-all c.args.numbers c.requires printable c.loop-i.invariant (omega (arith, c.loop-i-test.false))) c.put_text.ensures
+    let end = a.from.at + c.line_length-length.result in
+    let room : end ≤ length a.out.now = leb-true _ _ (sym c.has_room.ensures ∙ c.if-not-has_room.false) in
+    let place : a.from.at + length (line_text a.numbers) ≡ end = omega (arith, c.line_length-length.ensures) in
+    put-printable printable
+    (put-room _ _ _ _ _ (omega (arith, place, room)) (ended-all a.out.now a.from.at end a.numbers c.loop-i.i _ _ c.loop-i-test.false place room c.loop-i.invariant))

@@ -33,8 +33,8 @@ loop-record-init c =
     let few : c.blocks-last.result - a.self.placed ≤ length a.records.now = omega (arith, c.blocks-last.ensures, c.requires.room) in
     record {
       whole = refl;
-      room = length-take-le _ _ few;
       going = rw take-append-drop (going-none a.self (task (goal.at.loop-record-init c).Start) a.samples.now a.records.now);
+      room = length-take-le _ _ few;
     }
 
 -- what holds in a turn
@@ -89,7 +89,6 @@ loop-record-preserved c =
     let kept = drop (c.blocks-last.result - a.self.placed) a.records.now in
     record {
       whole = ap length painted ∙ length-placed _ _ _ _ ∙ i.whole;
-      room = simp length-set i.room;
       going = going_more a.self t a.samples.now a.records.now _ i.going
           (omega (arith, more l, c.requires.room))
           (turn-none (this l) told)
@@ -98,4 +97,5 @@ loop-record-preserved c =
           painted
           (ap (λ (v : List ℤ). set c.loop-record.record-items c.loop-record.record-index v ++ kept) c.into.ensures
           ∙ sym (set-append_left c.loop-record.record-items kept c.loop-record.record-index _ (omega (arith, c.loop-record-test.true))));
+      room = simp length-set i.room;
     }

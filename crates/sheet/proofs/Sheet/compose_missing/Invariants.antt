@@ -12,7 +12,7 @@ invariant-loop-record l =
     let S = l.initial.self in
     record {
       whole : length l.samples ≡ length l.initial.samples;
-      room : length l.record-items ≡ l.last - l.first;
       going : Going S (task_in S.n l.input) l.initial.samples l.fn.records l.record-index l.self l.samples
           (l.record-items ++ drop (l.last - l.first) l.fn.records);
+      room : length l.record-items ≡ l.last - l.first;
     }
