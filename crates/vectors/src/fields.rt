@@ -1,5 +1,5 @@
 // The fields of a case: the numbers of its line, and the slices that they give. What is missing in a line is read as 0 or as an empty
-// slice; a list that is missing has as many words, all 0, as stand before its line's last number, that number with them.
+// slice; a list that is missing has as many words as fields come up to its line's last number.
 use crate::reader;
 use crate::reader::Field;
 use pattern::Pattern;
@@ -32,7 +32,7 @@ pub(crate) struct Numbers<'a> {
 }
 
 impl Numbers<'_> {
-    // The next number. Where the line has no more it is 0, as outside/README.md says of all that is missing at a line's end.
+    // The next number, as `Fields::number` reads it.
     pub(crate) fn number(&mut self) -> u64 {
         let number = self.fields.number(self.next);
         self.next = self.next.saturating_add(1);
