@@ -13,7 +13,7 @@ use borrow.Author.Tests.{clash, le-leb}
 use mir.Syntax.{w64}
 use mir.Val.{SFits, to_z, of_z}
 use mir.ValLaws.{to_z-of_z}
-use Rattle.std.specs.Fmt.{decimal, signed_decimal}
+use Rattle.std.specs.Fmt.{decimal}
 use Rattle.std.specs.Prelude.{◌-◌, slice_set}
 use Rattle.std.proofs.lemmas.Fmt.{decimal_digit, decimal_step}
 use Rattle.std.proofs.lemmas.List.{drop-set, length-drop, take-set-le}
@@ -66,12 +66,6 @@ numeral_decimal n h =
     (λ l. digits-decimal (further_digits 4 n) n (further-low 4 n l) (further-high 4 n h) h)
     (eq-or-lt_of_le (zero-le {n = further_digits 4 n}))
 
--- the same behind a sign
-pub signed_numeral_decimal : (z : ℤ) → nat_abs z < numeral_end → signed_decimal z ≡ signed_numeral z
-unfolding signed_numeral
-signed_numeral_decimal (pos n) h = numeral_decimal n h
-signed_numeral_decimal (negsuc n) h = ap (λ (s : List ℕ). 45 ∷ s) (numeral_decimal (suc n) h)
-
 -- ---- a field: a numeral and the byte e after it
 
 -- a number that is not below 0 stands there without a sign
@@ -79,6 +73,7 @@ pub plain_field : (e n : ℕ) → signed_text e (pos n) ≡ number_text e n
 unfolding signed_text number_text signed_numeral
 plain_field e n = refl
 
+-- a number from 0 up is not below 0
 zero_below : (n : ℕ) → le_z (pos 0) (pos n) ≡ true
 zero_below n = le-leb 0 n (zero-le {n = n})
 
@@ -97,6 +92,7 @@ numeral_then : (e n : ℕ) (s : List ℕ) → numeral n ++ (e ∷ s) ≡ number_
 unfolding number_text
 numeral_then e n s = sym (append_assoc (numeral n) (e ∷ []) s)
 
+-- and how long the numeral is without the byte
 numeral_length : (e n : ℕ) → length (numeral n) + 1 ≡ length (number_text e n)
 unfolding number_text
 numeral_length e n = sym (length-append (numeral n) (e ∷ []))

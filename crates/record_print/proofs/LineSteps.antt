@@ -69,6 +69,7 @@ module _ (l : List ℤ) (four : length l ≡ 4) (printable : list_all signed_pri
       let b = end_byte (eqb k 3) in
       omega (arith, ap length (line-here k b h refl), q b, length-append (signed_text b (word l k)) (line_text (drop (suc k) l)))
 
+  -- past the last there is none
   no-field : length (line_text (drop 4 l)) ≡ 0
   no-field = ap (λ (m : List ℤ). length (line_text m)) (drop_of_length-le l {i = 4} (omega (arith, four)))
 
@@ -93,12 +94,6 @@ pub record Ended (old : List ℕ) (end : ℕ) (l : List ℤ) (k : ℕ) (out : Li
   pub before : take at out ≡ take at old
   pub place : at + length (line_text (drop k l)) ≡ end
   pub room : length out ≡ length old
-
--- none is written at first
-pub ended-none : (old : List ℕ) (end : ℕ) (l : List ℤ) → length l ≡ 4 → Ended old end l 4 old end
-ended-none old end l four =
-    let none : drop 4 l ≡ [] = drop_of_length-le l {i = 4} (omega (arith, four)) in
-    record { text = rw none refl; before = refl; place = rw none (omega arith); room = refl }
 
 -- there is one before number i
 pub ended-before :
@@ -164,14 +159,11 @@ ended-all old from end l zero out at none e h now =
 -- ---- a number of its own
 
 module _ (x : ℕ) {z : ℤ} (small : x < numeral_end) (same : z ≡ pos x) where
+  -- in a word of the machine it is itself
   number_back : to_z w64 (of_z w64 z) ≡ pos x
   number_back = ap (λ (y : ℤ). to_z w64 (of_z w64 y)) same ∙ word_back (pos x) (lt-ltb x numeral_end small)
 
-  -- it has a numeral
-  pub number_room : nat_abs (to_z w64 (of_z w64 z)) < numeral_end
-  number_room = rw number_back small
-
-  -- and its field has no sign
+  -- its field has no sign
   pub number_field : (e : ℕ) → signed_text e (to_z w64 (of_z w64 z)) ≡ number_text e x
   number_field e = ap (signed_text e) number_back ∙ plain_field e x
 

@@ -1,4 +1,4 @@
--- Writing a text that is given whole, and a line that is made apart first.
+-- Writing a text where there is room, and a text that is made apart first.
 use Prim.Native.Nat.{ℕ, ◌+◌, ◌≤◌, ◌<◌}
 use mathlib.Core.Path.{◌≡◌, refl, sym, ◌∙◌, ap, subst}
 use mathlib.Core.Bool.{Bool, true, false}
@@ -58,12 +58,6 @@ pub put-none :
 put-none {old = old} {from} text n e q h =
     let none : leb (from.at + length text) (length old) ≡ false = ap (λ (k : ℕ). leb (from.at + k) (length old)) (sym q) ∙ h in
     put-printable e (record { lent = rw none refl; place = rw none refl })
-
--- the same of the text as it was made
-pub put-made :
-    {b : Bool} {old new made text : List ℕ} {from next : Cursor} → b ≡ true → made ≡ text → Put old new from made next
-    → Put old new from (printed_if b text) next
-put-made {old = old} {new} {made} {text} {from} {next} e q w = put-printable e (subst (λ (x : List ℕ). Put old new from x next) q w)
 
 -- ---- a text made from the start of bytes of its own, and then put
 

@@ -1,4 +1,4 @@
--- Laws that no proof cites: docs/PORT.md names them.
+-- Laws that no proof cites: docs/PORT.md or docs/DESIGN-PASS.md names them.
 use Prim.Native.Nat.{ℕ, suc, ◌+◌, ◌≤◌, ◌<◌}
 use mathlib.Core.Path.{◌≡◌, refl, sym, ◌∙◌, ap, subst}
 use mathlib.Core.Bool.{Bool, true, false, cond}
@@ -10,7 +10,8 @@ use lib.IntN.{ℤ, pos, negsuc, nat_abs}
 use lib.ListN.{length, get_or, drop, set, length-append, drop_of_length-le}
 use lib.Seq.{sets, drop-cons}
 use Rattle.record_print.specs.declared.cursor.Cursor.{Cursor}
-use Rattle.record_text.specs.Numeral.{numeral_end}
+use Rattle.record_text.specs.Numeral.{signed_numeral, numeral_end}
+use Rattle.std.specs.Fmt.{signed_decimal}
 use Rattle.record_text.specs.Field.{signed_text}
 use Rattle.record_text.specs.Line.{end_byte, line_text, number_at}
 use Rattle.record_text.proofs.LineSteps.{end-at}
@@ -22,7 +23,8 @@ use lib.Dec.{ltb}
 use lib.Signed.{lt_z}
 use borrow.Author.Tests.{le-ltb, ltb-false}
 use Rattle.arith.proofs.Bools.{clash}
-use Rattle.record_print.proofs.PutLaws.{written-made}
+use Rattle.record_print.proofs.PutLaws.{written-made, put-printable}
+use Rattle.record_print.proofs.DecimalLaws.{numeral_decimal}
 
 -- whether the magnitude is below `numeral_end`, by two comparisons
 pub within_low : (z : ℤ) → lt_z (negsuc 99999) z ≡ false → false ≡ ltb (nat_abs z) numeral_end
@@ -101,3 +103,15 @@ written_byte l p b = record { lent = refl; place = refl }
 cond_same : {A : Type 0} (b : Bool) (x : A) → x ≡ cond b x x
 cond_same true x = refl
 cond_same false x = refl
+
+-- a text of values that can be printed is put as it was made
+pub put-made :
+    {b : Bool} {old new made text : List ℕ} {from next : Cursor} → b ≡ true → made ≡ text → Put old new from made next
+    → Put old new from (printed_if b text) next
+put-made {old = old} {new} {made} {text} {from} {next} e q w = put-printable e (subst (λ (x : List ℕ). Put old new from x next) q w)
+
+-- the decimal text of a signed number that has a numeral is the numeral behind its sign
+pub signed_numeral_decimal : (z : ℤ) → nat_abs z < numeral_end → signed_decimal z ≡ signed_numeral z
+unfolding signed_numeral
+signed_numeral_decimal (pos n) h = numeral_decimal n h
+signed_numeral_decimal (negsuc n) h = ap (λ (s : List ℕ). 45 ∷ s) (numeral_decimal (suc n) h)
